@@ -1,0 +1,12 @@
+use Rattle.records.specs.Events.{event-of}
+use Rattle.records.specs.declared.kinds.Reader.the-variants.{Events}
+use Rattle.records.proofs.Fronts.{decoded}
+use Rattle.records.proofs.event.take_event.Needs as need
+
+pub returns-in-Some : need.returns-in-Some
+returns-in-Some c =
+    let t = c .in-Continue-kind .ensures tt in
+    record
+    { value = decoded Events event-of (c .args .bytes .now) (c .args .at) (c .in-Continue-kind .kind) (c .in-Continue-kind .body .now)
+        (c .in-Continue-kind .rest .now) (c .in-Some .event) (t .value) (c .in-Some .ensures tt)
+    ; shorter = t .shorter }

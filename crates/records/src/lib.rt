@@ -1,0 +1,5 @@
+pub mod entry;
+pub mod event;
+pub mod fault;
+pub mod kinds;
+pub mod parts;
