@@ -4,4 +4,5 @@ pub mod Verdicts
 pub mod Questions
 pub mod Search
 pub mod WellFormed
+pub mod Updates
 pub mod Reading

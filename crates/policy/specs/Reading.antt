@@ -3,15 +3,11 @@ use mathlib.Core.Bool.{Bool, true, false, cond, not, _&&_}
 use mathlib.Core.List.{List, []}
 use Prim.Native.Nat.{ℕ, zero, suc, _+_, _-_}
 use lib.Dec.{eqb, ltb}
-use lib.ListN.{length, getD, set, replicate}
+use lib.ListN.{length, getD, set}
 use Rattle.std.specs.Options.{isSome}
-use Rattle.std.specs.declared.option.Option.{Option}
 use Rattle.std.specs.declared.option.Option.the-variants.{Some, None}
 use Rattle.std.specs.declared.result.Result.{Result}
 use Rattle.std.specs.declared.result.Result.the-variants.{Ok, Err}
-use Rattle.sets.specs.declared.roles.RoleSet.{RoleSet}
-use Rattle.sets.specs.declared.users.UserSet.{UserSet}
-use Rattle.sets.specs.Sets.{with-member}
 use Rattle.records.specs.Kinds.{between}
 use Rattle.records.specs.Parts.{then}
 use Rattle.records.specs.Entries.{entry-taken}
@@ -21,25 +17,12 @@ use Rattle.records.specs.declared.entry.Entry.{Entry}
 use Rattle.records.specs.declared.entry.Entry.the-variants.{Sizes, Inherits, StaticPair, DynamicPair, ConflictingUsers, LimitOfRoleUsers, LimitOfUserRoles, LimitOfUserActive, LimitOfRoleSessions, Required, Dependency, End}
 use Rattle.policy.specs.declared.tables.Sizes.{Sizes as Counts}
 use Rattle.policy.specs.declared.tables.Limits.{Limits}
-use Rattle.policy.specs.declared.tables.Requirements.{Requirements}
 use Rattle.policy.specs.declared.tables.Tables.{Tables}
-use Rattle.policy.specs.Entries.{no-roles, no-users}
+use Rattle.policy.specs.Updates.{only, bare, with-role, with-pair, with-users, put-hierarchy, put-ssd, put-dsd, put-conflicting, put-limits, put-requirements, put-dependencies}
 
--- tables with these sizes, and nothing else
-unfoldable pub only : Counts → Tables
-only sizes = record
-    { sizes = sizes
-    ; hierarchy = record { juniors = replicate 32 no-roles }
-    ; ssd = record { partners = replicate 32 no-roles }
-    ; dsd = record { partners = replicate 32 no-roles }
-    ; conflicting = record { partners = replicate 32 (replicate 64 no-users) }
-    ; limits = record { users = replicate 32 None; roles = replicate 64 None; active = replicate 64 None; sessions = replicate 32 None }
-    ; requirements = record { sets = replicate 6 (replicate 32 no-roles) }
-    ; dependencies = record { needs = replicate 32 no-roles } }
-
--- one user, role and session, and nothing else
-abbrev pub bare : Tables
-bare = only (record { users = 1; roles = 1; sessions = 1 })
+abbrev pub same : Bool → Bool → Bool
+same true b = b
+same false b = not b
 
 -- is it a sizes record, and is it the end record
 abbrev pub is-sizes : Entry → Bool
@@ -115,19 +98,47 @@ unlimited l (Required k a b) = true
 unlimited l (Dependency a b) = true
 unlimited l End = true
 
--- a row with one more member; an unordered pair is stored both ways
-abbrev pub with-role : List RoleSet → ℕ → ℕ → List RoleSet
-with-role rows a b = set rows a (record { bits = with-member 32 (getD rows a no-roles .bits) b })
+-- what an entry enters; a sizes record begins anew
+abbrev pub entered : Tables → Entry → Tables
+entered t (Sizes u r n) = only (record { users = u; roles = r; sessions = n })
+entered t (Inherits a b) = put-hierarchy t (with-role (t .hierarchy .juniors) a b)
+entered t (StaticPair a b) = put-ssd t (with-pair (t .ssd .partners) a b)
+entered t (DynamicPair a b) = put-dsd t (with-pair (t .dsd .partners) a b)
+entered t (ConflictingUsers r u v) = put-conflicting t (with-users (t .conflicting .partners) r u v)
+entered t (LimitOfRoleUsers r n) = put-limits t (record { users = set (t .limits .users) r (Some n); roles = t .limits .roles; active = t .limits .active; sessions = t .limits .sessions })
+entered t (LimitOfUserRoles u n) = put-limits t (record { users = t .limits .users; roles = set (t .limits .roles) u (Some n); active = t .limits .active; sessions = t .limits .sessions })
+entered t (LimitOfUserActive u n) = put-limits t (record { users = t .limits .users; roles = t .limits .roles; active = set (t .limits .active) u (Some n); sessions = t .limits .sessions })
+entered t (LimitOfRoleSessions r n) = put-limits t (record { users = t .limits .users; roles = t .limits .roles; active = t .limits .active; sessions = set (t .limits .sessions) r (Some n) })
+entered t (Required k a b) = put-requirements t (set (t .requirements .sets) (k - 1) (with-role (getD (t .requirements .sets) (k - 1) []) a b))
+entered t (Dependency a b) = put-dependencies t (with-role (t .dependencies .needs) a b)
+entered t End = t
 
-abbrev pub with-pair : List RoleSet → ℕ → ℕ → List RoleSet
-with-pair rows a b = with-role (with-role rows a b) b a
+-- the questions of a whole record at a place, in their order, and the tables after it
+abbrev pub applied : Tables → Entry → ℕ → Result Tables Fault
+applied t e at =
+    cond (same (is-sizes e) (eqb at 0))
+    (cond (in-range (t .sizes) e)
+    (cond (differ e)
+    (cond (unlimited (t .limits) e)
+    (Ok (entered t e)) (Err (RepeatedLimit at))) (Err (EqualPair at))) (Err (OutOfRange at))) (Err (MisplacedSizes at))
 
-abbrev pub with-user : List (List UserSet) → ℕ → ℕ → ℕ → List (List UserSet)
-with-user rows r u v =
-    set rows r (set (getD rows r []) u (record { bits = with-member 64 (getD (getD rows r []) u no-users .bits) v }))
+-- the tables read from s, which begins at a place, and the place after the end record; of at most k records
+unfoldable pub read-from : ℕ → Tables → List ℕ → ℕ → Result (Tables × ℕ) Fault
+read-from zero t s at = Err (NoByte at)
+read-from (suc k) t s at =
+    then (entry-taken s at) (λ p.
+        let next : ℕ = at + (length s - length (p .1)) in
+        then (applied t (p .0) at) (λ u. cond (is-end (p .0)) (Ok (u, next)) (read-from k u (p .1) next)))
 
-abbrev pub with-users : List (List UserSet) → ℕ → ℕ → ℕ → List (List UserSet)
-with-users rows r u v = with-user (with-user rows r u v) r v u
+-- the reading of all the bytes: every record takes at least one
+abbrev pub reading : List ℕ → Result (Tables × ℕ) Fault
+reading bytes = read-from (length bytes + 1) bare bytes 0
 
-abbrev pub with-required : Requirements → ℕ → ℕ → ℕ → Requirements
-with-required q k a b = record { sets = set (q .sets) (k - 1) (with-role (getD (q .sets) (k - 1) []) a b) }
+-- the answer, and the draft's tables: bare after a refusal
+abbrev pub answered : Result (Tables × ℕ) Fault → Result ℕ Fault
+answered (Ok p) = Ok (p .1)
+answered (Err f) = Err f
+
+abbrev pub drafted : Result (Tables × ℕ) Fault → Tables
+drafted (Ok p) = p .0
+drafted (Err f) = bare

@@ -1,29 +1,18 @@
 -- The verdict as it is searched for, by the table of seniority. Assumes nothing.
 -- That it is the right verdict is said by `Vetted`.
 use mathlib.Core.Bool.{Bool, cond, not, _&&_, _||_}
-use mathlib.Core.List.{List, []}
-use Prim.Native.Nat.{ℕ, zero, suc}
+use mathlib.Core.List.{List}
+use Prim.Native.Nat.{ℕ}
 use lib.Dec.{ltb}
-use lib.ListN.{getD}
 use Rattle.std.specs.declared.option.Option.{Option}
 use Rattle.std.specs.declared.option.Option.the-variants.{Some, None}
-use Rattle.std.specs.Options.{mapped}
 use Rattle.sets.specs.declared.roles.RoleSet.{RoleSet}
-use Rattle.sets.specs.Sets.{has, intersection, difference, first-below}
+use Rattle.sets.specs.First.{first-of}
 use Rattle.policy.specs.declared.tables.Tables.{Tables}
 use Rattle.policy.specs.declared.verdict.Verdict.{Verdict}
 use Rattle.policy.specs.declared.verdict.Verdict.the-variants.{Passed, Cycle, SelfConflict, LostConflict, BothConflicts, LostUsers}
-use Rattle.policy.specs.Entries.{no-roles, no-users, holds, ssd-pair, dsd-pair}
+use Rattle.policy.specs.Entries.{holds, ssd-pair, dsd-pair, users-pair}
 use Rattle.policy.specs.Seniority.{closure}
-
-abbrev pub or-else : {A : Type 0} → Option A → Option A → Option A
-or-else (Some x) o = Some x
-or-else None o = o
-
--- the first answer of f, from 0 up to k
-unfoldable pub first-of : {A : Type 0} → ℕ → (ℕ → Option A) → Option A
-first-of zero f = None
-first-of (suc k) f = or-else (first-of k f) (f k)
 
 -- 11: the two roles, lower first
 abbrev pub cycle-at : List RoleSet → ℕ → ℕ → Option Verdict
@@ -51,24 +40,18 @@ lost-conflict-found rows t =
     let n : ℕ = t .sizes .roles in first-of n (λ a. first-of n (λ b. first-of n (λ c. lost-conflict-at rows t a b c)))
 
 -- 14
-abbrev pub both-conflicts-at : Tables → ℕ → Option Verdict
-both-conflicts-at t a =
-    mapped (λ b. BothConflicts a b)
-    (first-below 32 (has (intersection (getD (t .ssd .partners) a no-roles .bits) (getD (t .dsd .partners) a no-roles .bits))))
+abbrev pub both-conflicts-at : Tables → ℕ → ℕ → Option Verdict
+both-conflicts-at t a b = cond (ssd-pair t a b && dsd-pair t a b) (Some (BothConflicts a b)) None
 
 abbrev pub both-conflicts-found : Tables → Option Verdict
-both-conflicts-found t = first-of (t .sizes .roles) (both-conflicts-at t)
+both-conflicts-found t = first-of (t .sizes .roles) (λ a. first-of 32 (both-conflicts-at t a))
 
 -- 15
-abbrev pub partners-of : Tables → ℕ → ℕ → ℕ
-partners-of t r u = getD (getD (t .conflicting .partners) r []) u no-users .bits
-
-abbrev pub lost-user-at : Tables → ℕ → ℕ → ℕ → Option Verdict
-lost-user-at t a b u =
-    mapped (λ v. LostUsers a b u v) (first-below 64 (has (difference 64 (partners-of t b u) (partners-of t a u))))
+abbrev pub lost-user-at : Tables → ℕ → ℕ → ℕ → ℕ → Option Verdict
+lost-user-at t a b u v = cond (users-pair t b u v && not (users-pair t a u v)) (Some (LostUsers a b u v)) None
 
 abbrev pub lost-users-at : List RoleSet → Tables → ℕ → ℕ → Option Verdict
-lost-users-at rows t a b = cond (holds rows a b) (first-of (t .sizes .users) (lost-user-at t a b)) None
+lost-users-at rows t a b = cond (holds rows a b) (first-of (t .sizes .users) (λ u. first-of 64 (lost-user-at t a b u))) None
 
 abbrev pub lost-users-found : List RoleSet → Tables → Option Verdict
 lost-users-found rows t = first-of (t .sizes .roles) (λ a. first-of (t .sizes .roles) (lost-users-at rows t a))

@@ -23,11 +23,17 @@ gathered rows chosen (suc k) = cond (has (chosen .bits) k) (union (gathered rows
 abbrev pub extended : ℕ → ℕ → RoleSet → RoleSet
 extended k below row = cond (has (row .bits) k) (record { bits = union (row .bits) below }) row
 
+abbrev pub spread-rows : ℕ → ℕ → List RoleSet → List RoleSet
+spread-rows k below rows = map (extended k below) rows
+
+-- each role by itself
+abbrev pub only-itself : ℕ → RoleSet
+only-itself a = record { bits = with-member 32 0 a }
+
 -- the roles that each role is senior to, where only the roles below k inherit
 unfoldable pub closed-below : ℕ → List RoleSet → List RoleSet
-closed-below zero juniors = map (λ a. record { bits = with-member 32 0 a }) (counting 0 32)
-closed-below (suc k) juniors =
-    map (extended k (gathered (closed-below k juniors) (getD juniors k no-roles) 32)) (closed-below k juniors)
+closed-below zero juniors = map only-itself (counting 0 32)
+closed-below (suc k) juniors = spread-rows k (gathered (closed-below k juniors) (getD juniors k no-roles) 32) (closed-below k juniors)
 
 -- the roles that each role is senior to
 abbrev pub closure : List RoleSet → List RoleSet
@@ -35,5 +41,5 @@ closure juniors = closed-below 32 juniors
 
 -- a table of rows says who is senior to whom
 pub record Tells-seniority (juniors rows : List RoleSet) : Type 0 where
-  pub holds-seniors : (a b : ℕ) → a < 32 → b < 32 → Senior (holds juniors) a b → holds rows a b ≡ true
-  pub seniors-hold : (a b : ℕ) → holds rows a b ≡ true → Senior (holds juniors) a b
+  pub senior-held : (a b : ℕ) → a < 32 → Senior (holds juniors) a b → holds rows a b ≡ true
+  pub held-senior : (a b : ℕ) → holds rows a b ≡ true → Senior (holds juniors) a b

@@ -1,6 +1,6 @@
 -- What holds of the tables of every draft. Assumes nothing.
 -- They are stated one by one, each with one proof at most, so that a draft can carry them.
---   Sized         each size is within its limits
+--   Sized         a size is at least 1 and within its limit
 --   Wide          every row of a table of roles is there
 --   Within        only roles of the policy stand in the rows
 --   Mutual        pairs are stored both ways
@@ -16,8 +16,8 @@ use Rattle.policy.specs.declared.tables.Sizes.{Sizes}
 use Rattle.policy.specs.declared.tables.Tables.{Tables}
 use Rattle.policy.specs.Entries.{holds, holds-user}
 
-abbrev pub Sized : Sizes → Type 0
-Sized s = (1 ≤ s .users) × (s .users ≤ 64) × (1 ≤ s .roles) × (s .roles ≤ 32) × (1 ≤ s .sessions) × (s .sessions ≤ 64)
+abbrev pub Sized : ℕ → ℕ → Type 0
+Sized most n = (1 ≤ n) × (n ≤ most)
 
 abbrev pub Wide : List RoleSet → Type 0
 Wide rows = length rows ≡ 32
@@ -44,7 +44,9 @@ Users-apart rows = (r u : ℕ) → holds-user rows r u u ≡ false
 
 -- all of them
 pub record WellFormed (t : Tables) : Type 0 where
-  pub sized : Sized (t .sizes)
+  pub users-sized : Sized 64 (t .sizes .users)
+  pub roles-sized : Sized 32 (t .sizes .roles)
+  pub sessions-sized : Sized 64 (t .sizes .sessions)
   pub juniors-within : Within (t .sizes .roles) (t .hierarchy .juniors)
   pub ssd-wide : Wide (t .ssd .partners)
   pub ssd-within : Within (t .sizes .roles) (t .ssd .partners)

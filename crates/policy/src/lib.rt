@@ -1,8 +1,7 @@
 // What a policy is, how it is read, and when it passes.
-pub mod checked;
 pub mod draft;
 pub mod questions;
-pub mod reading;
+pub mod rows;
 pub mod seniority;
 pub mod tables;
 pub mod verdict;

@@ -1,11 +1,11 @@
 -- The laws of the first answer, and of the least number that passes a test.
-use mathlib.Core.Path.{_≡_, refl, sym, ap, _∙_}
+use mathlib.Core.Path.{_≡_, refl, sym, ap, fun-ext, _∙_}
 use mathlib.Core.Bool.{Bool, true, false, cond}
 use mathlib.Core.Logic.{_⊎_, inl, inr}
 use Prim.Native.Nat.{ℕ, zero, suc, _+_, _<_, _≤_}
 use native.Mathlib.Numerals.{add-one}
 use native.Mathlib.Omega.{arith}
-use Rattle.std.specs.Options.{orOther}
+use Rattle.std.specs.Options.{orOther, mapped}
 use Rattle.std.proofs.shelf.Tests.{cases-bool, cases-lt, cond-true, cond-false}
 use Rattle.std.specs.declared.option.Option.{Option}
 use Rattle.std.specs.declared.option.Option.the-variants.{None, Some}
@@ -77,6 +77,9 @@ none-more k f e h = none-all (k + 1) f (λ j l. elim (cases-lt j k) [
     | inr p ↦ ap f (let q : j ≡ k = omega arith in q) ∙ h
     ])
 
+pub none-end : {A : Type 0} (n : ℕ) (f : ℕ → Option A) (k : ℕ) → n ≤ k → first-of k f ≡ None → first-of n f ≡ None
+none-end n f k l e = none-all n f (λ j m. all-none k f e j (omega arith))
+
 pub found-here : {A : Type 0} (n : ℕ) (f : ℕ → Option A) (k : ℕ) (x : A) → k < n → first-of k f ≡ None → f k ≡ Some x → first-of n f ≡ Some x
 found-here n f k x l e h = found-at n f k x l (all-none k f e) h
 
@@ -112,3 +115,21 @@ first-some k f m e =
 
 pub first-none : (k : ℕ) (f : ℕ → Bool) → first-below k f ≡ None → (j : ℕ) → j < k → f j ≡ false
 first-none k f e j l = left-out (f j) j (all-none k (λ i. cond (f i) (Some i) None) e j l)
+
+-- the least that passes, handed on
+pub mapped-first : {A : Type 0} (k : ℕ) (p : ℕ → Bool) (g : ℕ → A) → mapped g (first-below k p) ≡ first-of k (λ i. cond (p i) (Some (g i)) None)
+unfolding first-of
+mapped-first zero p g = refl
+mapped-first {A} (suc k) p g =
+    over (first-below k p) (p k) ∙ ap (λ (o : Option A). orOther o (cond (p k) (Some (g k)) None)) (mapped-first k p g)
+  where
+    over : (o : Option ℕ) (b : Bool) → mapped g (orOther o (cond b (Some k) None)) ≡ orOther (mapped g o) (cond b (Some (g k)) None)
+    over (Some x) b = refl
+    over None true = refl
+    over None false = refl
+
+-- the same, where another test that passes alike was searched
+pub told-first : {A : Type 0} (k : ℕ) (p q : ℕ → Bool) (g : ℕ → A) (o : Option ℕ) → o ≡ first-below k q → ((i : ℕ) → q i ≡ p i)
+    → mapped g o ≡ first-of k (λ i. cond (p i) (Some (g i)) None)
+told-first k p q g o e same =
+    ap (mapped g) e ∙ ap (λ (h : ℕ → Bool). mapped g (first-below k h)) (fun-ext same) ∙ mapped-first k p g

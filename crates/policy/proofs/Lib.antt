@@ -1,0 +1,6 @@
+pub mod Closing
+pub mod Drafts
+pub mod Keeping
+pub mod Loops
+pub mod Members
+pub mod Verdicts
