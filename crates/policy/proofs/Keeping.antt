@@ -1,6 +1,6 @@
 -- The tables of a draft are well formed when they are begun, and every entry that may be entered keeps them so.
-use mathlib.Core.Path.{_≡_, sym, ap, subst, _∙_}
-use mathlib.Core.Bool.{true, false, _&&_}
+use mathlib.Core.Path.{_≡_, refl, sym, ap, subst, _∙_}
+use mathlib.Core.Bool.{Bool, true, false, cond, _&&_}
 use mathlib.Core.List.{List, []}
 use Prim.Native.Nat.{ℕ, _<_, _≤_}
 use native.Mathlib.Omega.{arith}
@@ -11,6 +11,8 @@ use Rattle.std.proofs.shelf.Tests.{ltb-true, leb-true, eqb-false, not-true, and
 use Rattle.records.specs.Kinds.{between}
 use Rattle.records.specs.declared.entry.Entry.{Entry}
 use Rattle.records.specs.declared.entry.Entry.the-variants.{Sizes, Inherits, StaticPair, DynamicPair, ConflictingUsers, LimitOfRoleUsers, LimitOfUserRoles, LimitOfUserActive, LimitOfRoleSessions, Required, Dependency, End}
+use Rattle.records.specs.declared.fault.Fault.the-variants.{MisplacedSizes, OutOfRange, EqualPair, RepeatedLimit}
+use Rattle.std.specs.declared.result.Result.the-variants.{Ok, Err}
 use Rattle.sets.specs.declared.roles.RoleSet.{RoleSet}
 use Rattle.sets.specs.declared.users.UserSet.{UserSet}
 use Rattle.policy.specs.declared.tables.Sizes.{Sizes as Counts}
@@ -20,8 +22,8 @@ use Rattle.policy.specs.declared.tables.Dependencies.{Dependencies}
 use Rattle.policy.specs.declared.tables.Tables.{Tables}
 use Rattle.policy.specs.Entries.{no-roles, no-users, holds, holds-user}
 use Rattle.policy.specs.WellFormed.{Sized, Wide, Within, Mutual, WellFormed}
-use Rattle.policy.specs.Updates.{only, with-role, with-pair, with-users}
-use Rattle.policy.specs.Reading.{in-range, differ, entered}
+use Rattle.policy.specs.Updates.{only, bare, with-role, with-pair, with-users}
+use Rattle.policy.specs.Reading.{same, is-sizes, in-range, differ, unlimited, entered, applied}
 use Rattle.policy.proofs.Members.{roles, users, member, more, both, set-each, replicate-each, no-member, more-within, both-within, both-apart, both-length, both-mutual}
 
 -- numbers of an entry in range
@@ -182,3 +184,19 @@ entered-well-formed t (LimitOfRoleSessions r n) w i d = aside w _ _ _
 entered-well-formed t (Required k a b) w i d = aside w _ _ _
 entered-well-formed t (Dependency a b) w i d = aside w _ _ _
 entered-well-formed t End w i d = w
+
+-- a record that passed the questions keeps the tables well formed
+pub applied-well-formed : (t u : Tables) (e : Entry) (at : ℕ) → WellFormed t → applied t e at ≡ Ok u → WellFormed u
+applied-well-formed t u e at w h = go (same (is-sizes e) (eqb at 0)) (in-range (t .sizes) e) (differ e) (unlimited (t .limits) e) refl refl h
+  where
+    go : (a i d l : Bool) → in-range (t .sizes) e ≡ i → differ e ≡ d
+        → cond a (cond i (cond d (cond l (Ok (entered t e)) (Err (RepeatedLimit at))) (Err (EqualPair at))) (Err (OutOfRange at))) (Err (MisplacedSizes at)) ≡ Ok u
+        → WellFormed u
+    go true true true true i d q = subst WellFormed (let z : entered t e ≡ u = cc in z) (entered-well-formed t e w i d)
+    go true true true false i d q = absurd (let z : _≡_ {A = ℕ} 0 1 = cc in omega arith)
+    go true true false l i d q = absurd (let z : _≡_ {A = ℕ} 0 1 = cc in omega arith)
+    go true false b l i d q = absurd (let z : _≡_ {A = ℕ} 0 1 = cc in omega arith)
+    go false a b l i d q = absurd (let z : _≡_ {A = ℕ} 0 1 = cc in omega arith)
+
+pub bare-well-formed : WellFormed bare
+bare-well-formed = only-well-formed (record { users = 1; roles = 1; sessions = 1 }) ((omega arith, omega arith), (omega arith, omega arith), (omega arith, omega arith))

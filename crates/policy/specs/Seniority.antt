@@ -39,6 +39,10 @@ closed-below (suc k) juniors = spread-rows k (gathered (closed-below k juniors) 
 abbrev pub closure : List RoleSet → List RoleSet
 closure juniors = closed-below 32 juniors
 
+-- a table of rows is that of the hierarchy, row by row
+abbrev pub Closes : List RoleSet → List RoleSet → Type 0
+Closes juniors rows = (a : ℕ) → getD rows a no-roles .bits ≡ getD (closure juniors) a no-roles .bits
+
 -- a table of rows says who is senior to whom
 pub record Tells-seniority (juniors rows : List RoleSet) : Type 0 where
   pub senior-held : (a b : ℕ) → a < 32 → Senior (holds juniors) a b → holds rows a b ≡ true

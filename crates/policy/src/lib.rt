@@ -1,7 +1,10 @@
 // What a policy is, how it is read, and when it passes.
+pub mod check;
+pub mod checked;
 pub mod draft;
 pub mod questions;
-pub mod rows;
+pub mod reading;
+mod rows;
 pub mod seniority;
 pub mod tables;
 pub mod verdict;
