@@ -6,3 +6,4 @@ pub mod Search
 pub mod WellFormed
 pub mod Updates
 pub mod Reading
+pub mod Worked

@@ -8,3 +8,4 @@ mod rows;
 pub mod seniority;
 pub mod tables;
 pub mod verdict;
+pub mod worked;
