@@ -45,10 +45,13 @@ one-more E k (through {a} {b} {c} e p) = go (cases-lt a k) (one-more E k p)
   where
     parts : (ltb a (suc k) ≡ true) × (E a c ≡ true)
     parts = and-parts (ltb a (suc k)) (E a c) e
+
     here : k ≤ a → a ≡ k
     here h = omega (arith, ltb-true a (suc k) (parts .0))
+
     from-here : k ≤ a → Senior (cut E k) a k
     from-here h = subst (λ m. Senior (cut E k) m k) (sym (here h)) itself
+
     go : (a < k) ⊎ (k ≤ a) → Senior (cut E k) c b ⊎ By-way E k c b → Senior (cut E k) a b ⊎ By-way E k a b
     go (inl l) (inl q) = inl (through (and-from (ltb a k) (E a c) (lt-ltb a k l) (parts .1)) q)
     go (inl l) (inr w) = inr (record { up = through (and-from (ltb a k) (E a c) (lt-ltb a k l) (parts .1)) (w .up); junior = w .junior; step = w .step; down = w .down })
@@ -105,6 +108,7 @@ gathered-in rows chosen (suc m) c b l h r =
   where
     before : ℕ
     before = gathered rows chosen m
+
     row : ℕ
     row = getD rows m no-roles .bits
 
@@ -116,7 +120,7 @@ gathered-out rows chosen (suc m) b h =
     elim (cases-bool (has (chosen .bits) m)) [
       | inl t ↦
           elim (or-cases (has before b) (has row b)
-            (sym (ap (λ (n : ℕ). has n b) (cond-true (has (chosen .bits) m) (union before row) before t) ∙ has-union before row b) ∙ h)) [
+          (sym (ap (λ (n : ℕ). has n b) (cond-true (has (chosen .bits) m) (union before row) before t) ∙ has-union before row b) ∙ h)) [
             | inl q ↦ gathered-out rows chosen m b q
             | inr q ↦ (m, t, q)
           ]
@@ -125,6 +129,7 @@ gathered-out rows chosen (suc m) b h =
   where
     before : ℕ
     before = gathered rows chosen m
+
     row : ℕ
     row = getD rows m no-roles .bits
 
@@ -163,25 +168,30 @@ module _ (juniors : List RoleSet) (n : ℕ) (few : n ≤ 32) (inside : Steps-wit
     where
       rows : List RoleSet
       rows = closed-below k juniors
+
       below : ℕ
       below = gathered rows (getD juniors k no-roles) 32
+
       row : RoleSet
       row = getD rows a no-roles
+
       at : getD (spread-rows k below rows) a no-roles ≡ extended k below row
       at = spread-at k below rows a (omega (arith, closed-length k juniors))
+
       kept : has (row .bits) b ≡ true → has (extended k below row .bits) b ≡ true
       kept h =
           elim (cases-bool (has (row .bits) k)) [
             | inl t ↦ extended-has k below b row t ∙ or-left (has (row .bits) b) (has below b) h
             | inr t ↦ ap (λ (s : RoleSet). has (s .bits) b) (extended-same k below row t) ∙ h
           ]
+
       goes : Senior (cut (holds juniors) k) a b ⊎ By-way (holds juniors) k a b → holds (spread-rows k below rows) a b ≡ true
       goes (inl q) = ap (λ (s : RoleSet). has (s .bits) b) at ∙ kept (ih a b la lb q)
       goes (inr w) =
           let j32 : w .junior < 32 = omega (arith, inside k (w .junior) (w .step) .1) in
           ap (λ (s : RoleSet). has (s .bits) b) at ∙ extended-has k below b row (ih a k la lk (w .up))
           ∙ or-right (has (row .bits) b) (has below b)
-            (gathered-in rows (getD juniors k no-roles) 32 (w .junior) b j32 (w .step) (ih (w .junior) b j32 lb (w .down)))
+          (gathered-in rows (getD juniors k no-roles) 32 (w .junior) b j32 (w .step) (ih (w .junior) b j32 lb (w .down)))
 
   wider : (k a c : ℕ) → cut (holds juniors) k a c ≡ true → cut (holds juniors) (suc k) a c ≡ true
   wider k a c e =
@@ -204,16 +214,22 @@ module _ (juniors : List RoleSet) (n : ℕ) (few : n ≤ 32) (inside : Steps-wit
     where
       rows : List RoleSet
       rows = closed-below k juniors
+
       below : ℕ
       below = gathered rows (getD juniors k no-roles) 32
+
       row : RoleSet
       row = getD rows a no-roles
+
       la : a < 32
       la = held-inside (closed-below (suc k) juniors) a b (closed-length (suc k) juniors) h
+
       at : has (extended k below row .bits) b ≡ true
       at = sym (ap (λ (s : RoleSet). has (s .bits) b) (spread-at k below rows a (omega (arith, closed-length k juniors, la)))) ∙ h
+
       old : has (row .bits) b ≡ true → Senior (cut (holds juniors) (suc k)) a b
       old q = along (wider k) (ih a b q)
+
       goes : (has (row .bits) k ≡ true) ⊎ (has (row .bits) k ≡ false) → Senior (cut (holds juniors) (suc k)) a b
       goes (inl t) =
           elim (or-cases (has (row .bits) b) (has below b) (sym (extended-has k below b row t) ∙ at)) [
@@ -235,13 +251,16 @@ module _ (juniors : List RoleSet) (n : ℕ) (few : n ≤ 32) (inside : Steps-wit
 
   pub closure-tells : Tells-seniority juniors (closure juniors)
   unfolding Held Shown
-  closure-tells = record
-      { senior-held = λ a b la p. held 32 (omega arith) a b la (low la p) (along whole p)
-      ; held-senior = λ a b h. along part (shown 32 a b h) }
+  closure-tells = record {
+    senior-held = λ a b la p. held 32 (omega arith) a b la (low la p) (along whole p);
+    held-senior = λ a b h. along part (shown 32 a b h);
+  }
     where
       low : {a b : ℕ} → a < 32 → Senior (holds juniors) a b → b < 32
       low la p = elim (senior-within inside p) [ inl q ↦ omega arith | inr q ↦ omega (arith, q .1) ]
+
       whole : (a c : ℕ) → holds juniors a c ≡ true → cut (holds juniors) 32 a c ≡ true
       whole a c e = and-from (ltb a 32) (holds juniors a c) (lt-ltb a 32 (omega (arith, inside a c e .0))) e
+
       part : (a c : ℕ) → cut (holds juniors) 32 a c ≡ true → holds juniors a c ≡ true
       part a c e = and-parts (ltb a 32) (holds juniors a c) e .1

@@ -55,21 +55,21 @@ from-parts : {t : Tables} → let n : ℕ = t .sizes .roles in
     Counted (t .sizes) → Within n (t .hierarchy .juniors) → Pairs n (t .ssd .partners) → Pairs n (t .dsd .partners)
     → Users (t .sizes) (t .conflicting .partners) → WellFormed t
 from-parts z j p q c = record {
-    users-sized = z .0;
-    roles-sized = z .1;
-    sessions-sized = z .2;
-    juniors-within = j;
-    ssd-wide = p .0;
-    ssd-within = p .1;
-    ssd-mutual = p .2;
-    dsd-wide = q .0;
-    dsd-within = q .1;
-    dsd-mutual = q .2;
-    users-wide = (c .0, λ r. c .1 r .0);
-    users-within = λ e. c .1 (e .0) .1 (e .1) (e .2);
-    users-mutual = λ r. c .1 r .2;
-    users-apart = λ r. c .1 r .3;
-  }
+  users-sized = z .0;
+  roles-sized = z .1;
+  sessions-sized = z .2;
+  juniors-within = j;
+  ssd-wide = p .0;
+  ssd-within = p .1;
+  ssd-mutual = p .2;
+  dsd-wide = q .0;
+  dsd-within = q .1;
+  dsd-mutual = q .2;
+  users-wide = (c .0, λ r. c .1 r .0);
+  users-within = λ e. c .1 (e .0) .1 (e .1) (e .2);
+  users-mutual = λ r. c .1 r .2;
+  users-apart = λ r. c .1 r .3;
+}
 
 module _ {t : Tables} (w : WellFormed t) where
   counted-of : Counted (t .sizes)
@@ -85,31 +85,42 @@ module _ {t : Tables} (w : WellFormed t) where
   users-of = (w .users-wide .0, λ r. (w .users-wide .1 r, (λ u v. w .users-within (r, u, v)), w .users-mutual r, w .users-apart r))
 
   -- limits, requirements and dependencies may be any
-  aside : (l : Limits) (q : Requirements) (n : Dependencies) → WellFormed (record
-      { sizes = t .sizes; hierarchy = t .hierarchy; ssd = t .ssd; dsd = t .dsd; conflicting = t .conflicting
-      ; limits = l; requirements = q; dependencies = n })
+  aside : (l : Limits) (q : Requirements) (n : Dependencies) → WellFormed (record {
+    sizes = t .sizes;
+    hierarchy = t .hierarchy;
+    ssd = t .ssd;
+    dsd = t .dsd;
+    conflicting = t .conflicting;
+    limits = l;
+    requirements = q;
+    dependencies = n;
+  })
   aside l q n = from-parts counted-of (w .juniors-within) ssd-of dsd-of users-of
 
 -- empty tables
 
 empty-pairs : (n : ℕ) → Pairs n (replicate 32 no-roles)
-empty-pairs n =
-    (length-replicate 32 no-roles,
-     (λ a b t. absurd (both-ways (holds (replicate 32 no-roles) a b) (no-member roles 32 a b) t)),
-     λ a b. no-member roles 32 a b ∙ sym (no-member roles 32 b a))
+empty-pairs n = (
+  length-replicate 32 no-roles,
+  (λ a b t. absurd (both-ways (holds (replicate 32 no-roles) a b) (no-member roles 32 a b) t)),
+  λ a b. no-member roles 32 a b ∙ sym (no-member roles 32 b a),
+)
 
 empty-users : (s : Counts) → Users s (replicate 32 (replicate 64 no-users))
-empty-users s =
-    (length-replicate 32 (replicate 64 no-users), λ r.
-      ((λ l. ap length (getD-replicate 32 r (replicate 64 no-users) [] l) ∙ length-replicate 64 no-users),
-       (λ u v t. absurd (both-ways (holds-user (replicate 32 (replicate 64 no-users)) r u v) (none r u v) t)),
-       (λ u v. none r u v ∙ sym (none r v u)),
-       λ u. none r u u))
+empty-users s = (
+  length-replicate 32 (replicate 64 no-users),
+  λ r. (
+    (λ l. ap length (getD-replicate 32 r (replicate 64 no-users) [] l) ∙ length-replicate 64 no-users),
+    (λ u v t. absurd (both-ways (holds-user (replicate 32 (replicate 64 no-users)) r u v) (none r u v) t)),
+    (λ u v. none r u v ∙ sym (none r v u)),
+    λ u. none r u u,
+  ),
+)
   where
     none : (r u v : ℕ) → holds-user (replicate 32 (replicate 64 no-users)) r u v ≡ false
     none r u v =
         replicate-each (λ row. member users row u v ≡ false) 32 (replicate 64 no-users) []
-          (no-member users 64 u v) (no-member users 0 u v) r
+        (no-member users 64 u v) (no-member users 0 u v) r
 
 pub only-well-formed : (s : Counts) → Counted s → WellFormed (only s)
 unfolding only
@@ -118,10 +129,11 @@ only-well-formed s h = let p = empty-pairs (s .roles) in from-parts h (p .1) p p
 -- one pair more
 
 pair-kept : (n : ℕ) (rows : List RoleSet) (a b : ℕ) → n ≤ 32 → (a < n) × (b < n) → Pairs n rows → Pairs n (with-pair rows a b)
-pair-kept n rows a b l h p =
-    (both-length roles rows a b ∙ p .0,
-     both-within roles (λ x y. (x < n) × (y < n)) rows a b h (h .1, h .0) (p .1),
-     both-mutual roles rows a b (p .0) (omega arith) (omega arith) (p .2))
+pair-kept n rows a b l h p = (
+  both-length roles rows a b ∙ p .0,
+  both-within roles (λ x y. (x < n) × (y < n)) rows a b h (h .1, h .0) (p .1),
+  both-mutual roles rows a b (p .0) (omega arith) (omega arith) (p .2),
+)
 
 users-kept : (s : Counts) (rows : List (List UserSet)) (r u v : ℕ) → Counted s
     → r < s .roles → (u < s .users) × (v < s .users) → (u ≡ v → ⊥) → Users s rows → Users s (with-users rows r u v)
@@ -143,11 +155,12 @@ users-kept s rows r u v z hr h ne (wide, each) =
     new-row : Row s r new
     new-row =
         let old : Row s r row = each r in
-        let w : length row ≡ 64 = old .0 (omega arith) in
-        ((λ _. both-length users row u v ∙ w),
-         both-within users (λ x y. (r < s .roles) × (x < s .users) × (y < s .users)) row u v (hr, h .0, h .1) (hr, h .1, h .0) (old .1),
-         both-mutual users row u v w (omega arith) (omega arith) (old .2),
-         both-apart users row u v ne (old .3))
+        let w : length row ≡ 64 = old .0 (omega arith) in (
+          (λ _. both-length users row u v ∙ w),
+          both-within users (λ x y. (r < s .roles) × (x < s .users) × (y < s .users)) row u v (hr, h .0, h .1) (hr, h .1, h .0) (old .1),
+          both-mutual users row u v w (omega arith) (omega arith) (old .2),
+          both-apart users row u v ne (old .3),
+        )
 
 pub entered-well-formed : (t : Tables) (e : Entry) → WellFormed t → in-range (t .sizes) e ≡ true → differ e ≡ true
     → WellFormed (entered t e)
@@ -161,7 +174,7 @@ entered-well-formed t (Sizes u r n) w i d =
 entered-well-formed t (Inherits a b) w i d =
     let n : ℕ = t .sizes .roles in
     let j : Within n (with-role (t .hierarchy .juniors) a b) =
-        more-within roles (λ x y. (x < n) × (y < n)) (t .hierarchy .juniors) a b (below a b n i) (w .juniors-within) in
+    more-within roles (λ x y. (x < n) × (y < n)) (t .hierarchy .juniors) a b (below a b n i) (w .juniors-within) in
     from-parts (counted-of w) j (ssd-of w) (dsd-of w) (users-of w)
 entered-well-formed t (StaticPair a b) w i d =
     let n : ℕ = t .sizes .roles in
@@ -175,7 +188,7 @@ entered-well-formed t (ConflictingUsers r u v) w i d =
     let s : Counts = t .sizes in
     let p = and-parts (ltb r (s .roles)) (ltb u (s .users) && ltb v (s .users)) i in
     let c = users-kept s (t .conflicting .partners) r u v (counted-of w) (ltb-true r (s .roles) (p .0)) (below u v (s .users) (p .1))
-              (eqb-false u v (not-true (eqb u v) d)) (users-of w) in
+    (eqb-false u v (not-true (eqb u v) d)) (users-of w) in
     from-parts (counted-of w) (w .juniors-within) (ssd-of w) (dsd-of w) c
 entered-well-formed t (LimitOfRoleUsers r n) w i d = aside w _ _ _
 entered-well-formed t (LimitOfUserRoles u n) w i d = aside w _ _ _

@@ -14,7 +14,6 @@ use Rattle.sets.specs.Sets.{has, union}
 use Rattle.policy.specs.Entries.{no-roles}
 use Rattle.policy.specs.Seniority.{gathered, spread-rows, closed-below}
 
-
 -- a chosen role adds its row, another nothing
 pub gather-row : (rows : List RoleSet) (chosen : RoleSet) (role : ℕ) (all : RoleSet) → has (chosen .bits) role ≡ true
     → all ≡ record { bits = gathered rows chosen role }
@@ -23,10 +22,11 @@ unfolding gathered
 gather-row rows chosen role all h e =
     ap {B = RoleSet} (λ (s : RoleSet). record { bits = union (s .bits) (getD rows role no-roles .bits) }) e
     ∙ ap {B = RoleSet} (λ (n : ℕ). record { bits = n }) (sym (cond-true (has (chosen .bits) role) (union before row) before h)
-        ∙ ap (gathered rows chosen) (sym (add-one role)))
+    ∙ ap (gathered rows chosen) (sym (add-one role)))
   where
     before : ℕ
     before = gathered rows chosen role
+
     row : ℕ
     row = getD rows role no-roles .bits
 
@@ -35,8 +35,8 @@ pub gather-none : (rows : List RoleSet) (chosen : RoleSet) (role : ℕ) (all : R
 unfolding gathered
 gather-none rows chosen role all h e =
     e ∙ ap {B = RoleSet} (λ (n : ℕ). record { bits = n })
-        (sym (cond-false (has (chosen .bits) role) (union (gathered rows chosen role) (getD rows role no-roles .bits)) (gathered rows chosen role) h)
-        ∙ ap (gathered rows chosen) (sym (add-one role)))
+    (sym (cond-false (has (chosen .bits) role) (union (gathered rows chosen role) (getD rows role no-roles .bits)) (gathered rows chosen role) h)
+    ∙ ap (gathered rows chosen) (sym (add-one role)))
 
 -- one role more inherits
 pub close-more : (juniors rows next : List RoleSet) (role below : ℕ) → rows ≡ closed-below role juniors

@@ -43,14 +43,17 @@ pub set-each : {X : Type 0} (Q : ℕ → X → Type 0) (xs : List X) (a : ℕ) (
 set-each Q xs a new d old h i = elim (cases-eq i a) [
   | inl e ↦ subst (λ j. Q j (getD (set xs a new) j d)) (sym e) (elim (cases-lt a (length xs)) [
     | inl l ↦ subst (Q a) (sym (getD-set-same xs a new d l)) h
-    | inr l ↦ subst (λ ys. Q a (getD ys a d)) (sym (set-past xs a new l)) (old a) ])
-  | inr ne ↦ subst (Q i) (sym (getD-set-other xs a i new d ne)) (old i) ]
+    | inr l ↦ subst (λ ys. Q a (getD ys a d)) (sym (set-past xs a new l)) (old a)
+  ])
+  | inr ne ↦ subst (Q i) (sym (getD-set-other xs a i new d ne)) (old i)
+]
 
 -- what holds of the entry and of the default holds at every place of equal entries
 pub replicate-each : {X : Type 0} (Q : X → Type 0) (n : ℕ) (x d : X) → Q x → Q d → (i : ℕ) → Q (getD (replicate n x) i d)
 replicate-each Q n x d hx hd i = elim (cases-lt i n) [
   | inl l ↦ subst Q (sym (getD-replicate n i x d l)) hx
-  | inr l ↦ subst Q (sym (getD-past (replicate n x) i d (omega (arith, length-replicate n x)))) hd ]
+  | inr l ↦ subst Q (sym (getD-past (replicate n x) i d (omega (arith, length-replicate n x)))) hd
+]
 
 module _ {X : Type 0} (k : Kind X) where
   -- empty rows have no member
@@ -62,7 +65,7 @@ module _ {X : Type 0} (k : Kind X) where
   -- the new row, member by member
   new-row : (rows : List X) (a b y : ℕ)
       → let n : ℕ = k .bits (getD rows a (k .make 0)) in
-        has (k .bits (k .make (with-member (k .width) n b))) y ≡ (member k rows a y || (eqb y b && ltb y (k .width)))
+      has (k .bits (k .make (with-member (k .width) n b))) y ≡ (member k rows a y || (eqb y b && ltb y (k .width)))
   new-row rows a b y =
       let n : ℕ = k .bits (getD rows a (k .make 0)) in
       ap (λ m. has m y) (k .made (with-member (k .width) n b)) ∙ has-with (k .width) n b y
@@ -73,9 +76,10 @@ module _ {X : Type 0} (k : Kind X) where
   more-within C rows a b c old =
       let n : ℕ = k .bits (getD rows a (k .make 0)) in
       set-each (λ x s. (y : ℕ) → has (k .bits s) y ≡ true → C x y) rows a (k .make (with-member (k .width) n b)) (k .make 0) old
-        (λ y t. elim (or-cases (member k rows a y) (eqb y b && ltb y (k .width)) (sym (new-row rows a b y) ∙ t)) [
-          | inl m ↦ old a y m
-          | inr m ↦ subst (C a) (sym (eqb-true y b (and-parts (eqb y b) (ltb y (k .width)) m .0))) c ])
+      (λ y t. elim (or-cases (member k rows a y) (eqb y b && ltb y (k .width)) (sym (new-row rows a b y) ∙ t)) [
+        | inl m ↦ old a y m
+        | inr m ↦ subst (C a) (sym (eqb-true y b (and-parts (eqb y b) (ltb y (k .width)) m .0))) c
+      ])
 
   pub both-within : (C : ℕ → ℕ → Type 0) (rows : List X) (a b : ℕ) → C a b → C b a
       → ((x y : ℕ) → member k rows x y ≡ true → C x y) → (x y : ℕ) → member k (both k rows a b) x y ≡ true → C x y
@@ -87,8 +91,8 @@ module _ {X : Type 0} (k : Kind X) where
   more-apart rows a b ne old =
       let n : ℕ = k .bits (getD rows a (k .make 0)) in
       set-each (λ x s. has (k .bits s) x ≡ false) rows a (k .make (with-member (k .width) n b)) (k .make 0) old
-        (new-row rows a b a ∙ or-from (member k rows a a) (eqb a b && ltb a (k .width)) (old a)
-          (and-left (eqb a b) (ltb a (k .width)) (ne-eqb a b ne)))
+      (new-row rows a b a ∙ or-from (member k rows a a) (eqb a b && ltb a (k .width)) (old a)
+      (and-left (eqb a b) (ltb a (k .width)) (ne-eqb a b ne)))
 
   pub both-apart : (rows : List X) (a b : ℕ) → (a ≡ b → ⊥)
       → ((x : ℕ) → member k rows x x ≡ false) → (x : ℕ) → member k (both k rows a b) x x ≡ false
@@ -107,11 +111,12 @@ module _ {X : Type 0} (k : Kind X) where
       elim (cases-eq x a) [
         | inl e ↦ subst (λ i. member k (more k rows a b) i y ≡ (member k rows i y || (eqb i a && eqb y b))) (sym e)
             (ap (λ s. has (k .bits s) y) (getD-set-same rows a new (k .make 0) ha)
-              ∙ ap (λ m. has m y) (k .made (with-member (k .width) n b) ∙ with-within (k .width) n b hb)
-              ∙ has-union n (2 ^ b) y
-              ∙ ap (λ t. has n y || t) (has-bit b y ∙ ap (λ t. t && eqb y b) (sym (eq-eqb a a refl))))
+            ∙ ap (λ m. has m y) (k .made (with-member (k .width) n b) ∙ with-within (k .width) n b hb)
+            ∙ has-union n (2 ^ b) y
+            ∙ ap (λ t. has n y || t) (has-bit b y ∙ ap (λ t. t && eqb y b) (sym (eq-eqb a a refl))))
         | inr ne ↦ ap (λ s. has (k .bits s) y) (getD-set-other rows a x new (k .make 0) ne) ∙ sym (or-false (member k rows x y))
-            ∙ ap (λ t. member k rows x y || (t && eqb y b)) (sym (ne-eqb x a ne)) ]
+            ∙ ap (λ t. member k rows x y || (t && eqb y b)) (sym (ne-eqb x a ne))
+      ]
 
   -- a pair stored both ways keeps the rows mutual
   pub both-mutual : (rows : List X) (a b : ℕ) → length rows ≡ k .width → a < k .width → b < k .width

@@ -57,9 +57,11 @@ module _ (t : Tables) (s : List ℕ) (at : ℕ) (out : Read) (x : Entry) (tail :
 
   pub turned : (u : Tables) → applied t x at ≡ Ok u → false ≡ is-end x → length tail < length s
       → (k : ℕ) × (length tail < k) × (read-from k u tail (at + (length s - length tail)) ≡ out)
-  turned u a h lt =
-      (l .k, omega (arith, l .enough)
-      , sym (cond-false (is-end x) (Ok (u, at + (length s - length tail))) (read-from (l .k) u tail (at + (length s - length tail))) (sym h)) ∙ asked (Ok u) a)
+  turned u a h lt = (
+    l .k,
+    omega (arith, l .enough),
+    sym (cond-false (is-end x) (Ok (u, at + (length s - length tail))) (read-from (l .k) u tail (at + (length s - length tail))) (sym h)) ∙ asked (Ok u) a,
+  )
 
 -- what is read is well formed
 then-well-formed : (k : ℕ) (t : Tables) (x : Entry) (tail : List ℕ) (at next : ℕ) → WellFormed t
@@ -72,6 +74,7 @@ then-well-formed k t x tail at next w rest = go (applied t x at) refl
       where
         entered : WellFormed u
         entered = applied-well-formed t u x at w e
+
         ends : (b : Bool) → WellFormed (drafted (cond b (Ok (u, next)) (read-from k u tail next)))
         ends true = entered
         ends false = rest u entered

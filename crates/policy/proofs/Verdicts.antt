@@ -70,7 +70,7 @@ module _ (t : Tables) (w : WellFormed t) (rows : List RoleSet) (tells : Tells-se
       let la = both-below (λ x. omega arith) p in
       unless (ltb a b && (holds rows a b && holds rows b a)) (Cycle a b) e
       (and-from (ltb a b) _ (lt-ltb a b l)
-        (and-from (holds rows a b) (holds rows b a) (tells .senior-held a b (few (la .0)) p) (tells .senior-held b a (few (la .1)) q)))
+      (and-from (holds rows a b) (holds rows b a) (tells .senior-held a b (few (la .0)) p) (tells .senior-held b a (few (la .1)) q)))
 
   cycle-inside : (a b : ℕ) → Witness t (Cycle a b) → (a < t .sizes .roles) × (b < t .sizes .roles)
   cycle-inside a b (l, p, q) = both-below (λ x. omega arith) p
@@ -85,16 +85,22 @@ module _ (t : Tables) (w : WellFormed t) (rows : List RoleSet) (tells : Tells-se
     where
       n : ℕ
       n = t .sizes .roles
+
       f : Found n (λ a. first-of n (cycle-at rows a)) v
       f = found n (λ a. first-of n (cycle-at rows a)) v e
+
       g : Found n (cycle-at rows (f .at)) v
       g = found n (cycle-at rows (f .at)) v (f .answers)
+
       h : ((ltb (f .at) (g .at) && (holds rows (f .at) (g .at) && holds rows (g .at) (f .at))) ≡ true) × (Cycle (f .at) (g .at) ≡ v)
       h = when _ (Cycle (f .at) (g .at)) v (g .answers)
+
       p : (ltb (f .at) (g .at) ≡ true) × ((holds rows (f .at) (g .at) && holds rows (g .at) (f .at)) ≡ true)
       p = and-parts (ltb (f .at) (g .at)) _ (h .0)
+
       q : (holds rows (f .at) (g .at) ≡ true) × (holds rows (g .at) (f .at) ≡ true)
       q = and-parts (holds rows (f .at) (g .at)) (holds rows (g .at) (f .at)) (p .1)
+
       low : (x y : ℕ) → Lower (x ∷ y ∷ 0 ∷ 0 ∷ []) (f .at ∷ g .at ∷ 0 ∷ 0 ∷ []) → Witness t (Cycle x y) → ⊥
       low x y s z = elim s [
         | inl l ↦ cycle-refuted x y (all-none n (cycle-at rows x) (f .before x l) y (cycle-inside x y z .1)) z
@@ -103,6 +109,7 @@ module _ (t : Tables) (w : WellFormed t) (rows : List RoleSet) (tells : Tells-se
           | inr o ↦ never-lower (0 ∷ 0 ∷ []) (o .1)
         ]
       ]
+
       sooner : (o : Verdict) → Sooner o (Cycle (f .at) (g .at)) → Witness t o → ⊥
       sooner Passed s u = u
       sooner (Cycle x y) s u = low x y (same-question 11 s) u
@@ -128,10 +135,13 @@ module _ (t : Tables) (w : WellFormed t) (rows : List RoleSet) (tells : Tells-se
     where
       f : Found (t .sizes .roles) (self-conflict-at t) v
       f = found (t .sizes .roles) (self-conflict-at t) v e
+
       h : ((ssd-pair t (f .at) (f .at) || dsd-pair t (f .at) (f .at)) ≡ true) × (SelfConflict (f .at) ≡ v)
       h = when _ (SelfConflict (f .at)) v (f .answers)
+
       low : (x : ℕ) → Lower (x ∷ 0 ∷ 0 ∷ 0 ∷ []) (f .at ∷ 0 ∷ 0 ∷ 0 ∷ []) → Witness t (SelfConflict x) → ⊥
       low x s z = elim s [ inl l ↦ self-refuted x (f .before x l) z | inr m ↦ never-lower (0 ∷ 0 ∷ 0 ∷ []) (m .1) ]
+
       sooner : (o : Verdict) → Sooner o (SelfConflict (f .at)) → Witness t o → ⊥
       sooner Passed s u = u
       sooner (Cycle x y) s u = c1 x y u
@@ -146,7 +156,7 @@ module _ (t : Tables) (w : WellFormed t) (rows : List RoleSet) (tells : Tells-se
   lost-refuted a b c e (p, q, r) =
       unless (lost-conflict rows t a b c) (LostConflict a b c) e
       (and-from (holds rows a b) _ (tells .senior-held a b (few (senior-below (w .ssd-within b c q .0) p)) p)
-        (and-from (ssd-pair t b c) (not (ssd-pair t a c)) q (not-from-false (ssd-pair t a c) r)))
+      (and-from (ssd-pair t b c) (not (ssd-pair t a c)) q (not-from-false (ssd-pair t a c) r)))
 
   lost-inside : (a b c : ℕ) → Witness t (LostConflict a b c) → (a < t .sizes .roles) × (b < t .sizes .roles) × (c < t .sizes .roles)
   lost-inside a b c (p, q, r) = let i = w .ssd-within b c q in (senior-below (i .0) p, i .0, i .1)
@@ -164,20 +174,28 @@ module _ (t : Tables) (w : WellFormed t) (rows : List RoleSet) (tells : Tells-se
     where
       n : ℕ
       n = t .sizes .roles
+
       at : ℕ → ℕ → ℕ → Option Verdict
       at = lost-conflict-at rows t
+
       f : Found n (λ a. first-of n (λ b. first-of n (at a b))) v
       f = found n (λ a. first-of n (λ b. first-of n (at a b))) v e
+
       g : Found n (λ b. first-of n (at (f .at) b)) v
       g = found n (λ b. first-of n (at (f .at) b)) v (f .answers)
+
       h : Found n (at (f .at) (g .at)) v
       h = found n (at (f .at) (g .at)) v (g .answers)
+
       k : (lost-conflict rows t (f .at) (g .at) (h .at) ≡ true) × (LostConflict (f .at) (g .at) (h .at) ≡ v)
       k = when _ (LostConflict (f .at) (g .at) (h .at)) v (h .answers)
+
       p : (holds rows (f .at) (g .at) ≡ true) × ((ssd-pair t (g .at) (h .at) && not (ssd-pair t (f .at) (h .at))) ≡ true)
       p = and-parts (holds rows (f .at) (g .at)) _ (k .0)
+
       q : (ssd-pair t (g .at) (h .at) ≡ true) × (not (ssd-pair t (f .at) (h .at)) ≡ true)
       q = and-parts (ssd-pair t (g .at) (h .at)) (not (ssd-pair t (f .at) (h .at))) (p .1)
+
       low : (x y z : ℕ) → Lower (x ∷ y ∷ z ∷ 0 ∷ []) (f .at ∷ g .at ∷ h .at ∷ 0 ∷ []) → Witness t (LostConflict x y z) → ⊥
       low x y z s u =
           let i = lost-inside x y z u in
@@ -191,6 +209,7 @@ module _ (t : Tables) (w : WellFormed t) (rows : List RoleSet) (tells : Tells-se
               ]
             ]
           ]
+
       sooner : (o : Verdict) → Sooner o (LostConflict (f .at) (g .at) (h .at)) → Witness t o → ⊥
       sooner Passed s u = u
       sooner (Cycle x y) s u = c1 x y u
@@ -218,10 +237,13 @@ module _ (t : Tables) (w : WellFormed t) (rows : List RoleSet) (tells : Tells-se
     where
       f : Found (t .sizes .roles) (λ a. first-of 32 (both-conflicts-at t a)) v
       f = found (t .sizes .roles) (λ a. first-of 32 (both-conflicts-at t a)) v e
+
       g : Found 32 (both-conflicts-at t (f .at)) v
       g = found 32 (both-conflicts-at t (f .at)) v (f .answers)
+
       h : ((ssd-pair t (f .at) (g .at) && dsd-pair t (f .at) (g .at)) ≡ true) × (BothConflicts (f .at) (g .at) ≡ v)
       h = when _ (BothConflicts (f .at) (g .at)) v (g .answers)
+
       low : (x y : ℕ) → Lower (x ∷ y ∷ 0 ∷ 0 ∷ []) (f .at ∷ g .at ∷ 0 ∷ 0 ∷ []) → Witness t (BothConflicts x y) → ⊥
       low x y s z = elim s [
         | inl l ↦ both-refuted x y (all-none 32 (both-conflicts-at t x) (f .before x l) y (both-inside x y z .1)) z
@@ -230,6 +252,7 @@ module _ (t : Tables) (w : WellFormed t) (rows : List RoleSet) (tells : Tells-se
           | inr o ↦ never-lower (0 ∷ 0 ∷ []) (o .1)
         ]
       ]
+
       sooner : (o : Verdict) → Sooner o (BothConflicts (f .at) (g .at)) → Witness t o → ⊥
       sooner Passed s u = u
       sooner (Cycle x y) s u = c1 x y u
@@ -273,28 +296,40 @@ module _ (t : Tables) (w : WellFormed t) (rows : List RoleSet) (tells : Tells-se
     where
       n : ℕ
       n = t .sizes .roles
+
       m : ℕ
       m = t .sizes .users
+
       at : ℕ → ℕ → ℕ → Option Verdict
       at x y k = first-of 64 (lost-user-at t x y k)
+
       d : Found n (λ x. first-of n (lost-users-at rows t x)) v
       d = found n (λ x. first-of n (lost-users-at rows t x)) v e
+
       a : ℕ
       a = d .at
+
       j : Found n (lost-users-at rows t a) v
       j = found n (lost-users-at rows t a) v (d .answers)
+
       b : ℕ
       b = j .at
+
       c : (holds rows a b ≡ true) × (first-of m (at a b) ≡ Some v)
       c = when-some (holds rows a b) (first-of m (at a b)) v (j .answers)
+
       f : Found m (at a b) v
       f = found m (at a b) v (c .1)
+
       g : Found 64 (lost-user-at t a b (f .at)) v
       g = found 64 (lost-user-at t a b (f .at)) v (f .answers)
+
       k : ((users-pair t b (f .at) (g .at) && not (users-pair t a (f .at) (g .at))) ≡ true) × (LostUsers a b (f .at) (g .at) ≡ v)
       k = when _ (LostUsers a b (f .at) (g .at)) v (g .answers)
+
       p : (users-pair t b (f .at) (g .at) ≡ true) × (not (users-pair t a (f .at) (g .at)) ≡ true)
       p = and-parts (users-pair t b (f .at) (g .at)) _ (k .0)
+
       -- the other order would have been found sooner
       apart : f .at < g .at
       apart = elim (cases-order (f .at) (g .at)) [
@@ -306,11 +341,12 @@ module _ (t : Tables) (w : WellFormed t) (rows : List RoleSet) (tells : Tells-se
               (w .users-mutual b (g .at) (f .at) ∙ p .0) (w .users-mutual a (g .at) (f .at) ∙ not-true (users-pair t a (f .at) (g .at)) (p .1)))
         ]
       ]
+
       low : (x y q r : ℕ) → Lower (x ∷ y ∷ q ∷ r ∷ []) (a ∷ b ∷ f .at ∷ g .at ∷ []) → Witness t (LostUsers x y q r) → ⊥
       low x y q r s u =
           let i = users-inside x y q r u in
           let last : lost-users-at rows t x y ≡ None → ⊥ = λ h.
-              users-refuted x y q r (all-none 64 (lost-user-at t x y q) (all-none m (at x y) (when-none (holds rows x y) (first-of m (at x y)) h (i .held)) q (i .first)) r (i .second)) (u .2) (u .3) in
+          users-refuted x y q r (all-none 64 (lost-user-at t x y q) (all-none m (at x y) (when-none (holds rows x y) (first-of m (at x y)) h (i .held)) q (i .first)) r (i .second)) (u .2) (u .3) in
           elim s [
             | inl l ↦ last (all-none n (lost-users-at rows t x) (d .before x l) y (i .junior))
             | inr o ↦ elim (o .1) [
@@ -324,6 +360,7 @@ module _ (t : Tables) (w : WellFormed t) (rows : List RoleSet) (tells : Tells-se
               ]
             ]
           ]
+
       sooner : (o : Verdict) → Sooner o (LostUsers a b (f .at) (g .at)) → Witness t o → ⊥
       sooner Passed s u = u
       sooner (Cycle x y) s u = c1 x y u

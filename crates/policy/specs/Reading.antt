@@ -127,8 +127,8 @@ unfoldable pub read-from : ℕ → Tables → List ℕ → ℕ → Result (Table
 read-from zero t s at = Err (NoByte at)
 read-from (suc k) t s at =
     then (entry-taken s at) (λ p.
-        let next : ℕ = at + (length s - length (p .1)) in
-        then (applied t (p .0) at) (λ u. cond (is-end (p .0)) (Ok (u, next)) (read-from k u (p .1) next)))
+    let next : ℕ = at + (length s - length (p .1)) in
+    then (applied t (p .0) at) (λ u. cond (is-end (p .0)) (Ok (u, next)) (read-from k u (p .1) next)))
 
 -- the reading of all the bytes: every record takes at least one
 abbrev pub reading : List ℕ → Result (Tables × ℕ) Fault

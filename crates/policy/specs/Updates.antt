@@ -13,15 +13,16 @@ use Rattle.policy.specs.Entries.{no-roles, no-users}
 
 -- tables with these sizes, and nothing else
 unfoldable pub only : Sizes → Tables
-only sizes = record
-    { sizes = sizes
-    ; hierarchy = record { juniors = replicate 32 no-roles }
-    ; ssd = record { partners = replicate 32 no-roles }
-    ; dsd = record { partners = replicate 32 no-roles }
-    ; conflicting = record { partners = replicate 32 (replicate 64 no-users) }
-    ; limits = record { users = replicate 32 None; roles = replicate 64 None; active = replicate 64 None; sessions = replicate 32 None }
-    ; requirements = record { sets = replicate 6 (replicate 32 no-roles) }
-    ; dependencies = record { needs = replicate 32 no-roles } }
+only sizes = record {
+  sizes = sizes;
+  hierarchy = record { juniors = replicate 32 no-roles };
+  ssd = record { partners = replicate 32 no-roles };
+  dsd = record { partners = replicate 32 no-roles };
+  conflicting = record { partners = replicate 32 (replicate 64 no-users) };
+  limits = record { users = replicate 32 None; roles = replicate 64 None; active = replicate 64 None; sessions = replicate 32 None };
+  requirements = record { sets = replicate 6 (replicate 32 no-roles) };
+  dependencies = record { needs = replicate 32 no-roles };
+}
 
 -- one user, role and session, and nothing else
 abbrev pub bare : Tables

@@ -8,7 +8,7 @@ ghost use Rattle.policy.specs.Updates.{bare};
 ghost use Rattle.policy.specs.Verdicts.{number-of};
 use crate::checked::Checked;
 use crate::draft::Draft;
-use crate::questions::vet;
+use crate::questions::vet_by;
 use crate::seniority::Seniority;
 use crate::verdict::Verdict;
 
@@ -28,9 +28,13 @@ impl Checked {
         ensures law { λ r. ⌜ Vetted (now (draft .entry) .tables) r ⌝ }
         ensures policy { λ r. ⌜ now (self .exit) .draft .tables ≡ cond (eqb (number-of r) 0) (now (draft .entry) .tables) (now (self .entry) .draft .tables) ⌝ }
     {
-        let verdict = vet(draft);
+        let seniority = Seniority::of(draft);
+        let verdict = vet_by(draft, &seniority);
         if let Verdict::Passed = verdict {
-            *self = Checked { draft: *draft, seniority: Seniority::of(draft) };
+            *self = Checked {
+                draft: *draft,
+                seniority,
+            };
         }
         verdict
     }

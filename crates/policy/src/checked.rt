@@ -4,7 +4,7 @@ ghost use Rattle.policy.specs.Questions.{Passes};
 use crate::draft::Draft;
 use crate::seniority::Seniority;
 
-// It holds the draft and its hierarchy closed; nothing but the check fills one.
+// The draft and its hierarchy closed; no value of this type fails a question.
 #[derive(Clone, Copy)]
 pub struct Checked {
     pub draft: Draft,

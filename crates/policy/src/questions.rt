@@ -6,6 +6,7 @@ ghost use lib.Dec.{ltb};
 ghost use Rattle.sets.specs.First.{first-of};
 ghost use Rattle.policy.specs.Entries.{holds, ssd-pair, dsd-pair};
 ghost use Rattle.policy.specs.Questions.{Vetted};
+ghost use Rattle.policy.specs.Seniority.{closure};
 ghost use Rattle.policy.specs.Search.{cycle-at, cycle-found, self-conflict-found, lost-conflict, lost-conflict-found, both-conflicts-at, both-conflicts-found, lost-user-at, lost-users-at, lost-users-found, verdict};
 use crate::draft::Draft;
 use crate::rows::row_holds;
@@ -18,20 +19,28 @@ pub fn vet(draft: &Draft) -> Verdict
     ensures answer { λ r. ⌜ r ≡ verdict (now (draft .entry) .tables) ⌝ }
     ensures law { λ r. ⌜ Vetted (now (draft .entry) .tables) r ⌝ }
 {
-    let seniority = Seniority::of(draft);
-    if let Some(found) = find_cycle(draft, &seniority) {
+    vet_by(draft, &Seniority::of(draft))
+}
+
+// The same, by the hierarchy of the draft closed before.
+pub(crate) fn vet_by(draft: &Draft, seniority: &Seniority) -> Verdict
+    requires { ⌜ now seniority .rows ≡ closure (now draft .tables .hierarchy .juniors) ⌝ }
+    ensures answer { λ r. ⌜ r ≡ verdict (now (draft .entry) .tables) ⌝ }
+    ensures law { λ r. ⌜ Vetted (now (draft .entry) .tables) r ⌝ }
+{
+    if let Some(found) = find_cycle(draft, seniority) {
         return found;
     }
     if let Some(found) = find_self_conflict(draft) {
         return found;
     }
-    if let Some(found) = find_lost_conflict(draft, &seniority) {
+    if let Some(found) = find_lost_conflict(draft, seniority) {
         return found;
     }
     if let Some(found) = find_both_conflicts(draft) {
         return found;
     }
-    if let Some(found) = find_lost_users(draft, &seniority) {
+    if let Some(found) = find_lost_users(draft, seniority) {
         return found;
     }
     Verdict::Passed
@@ -91,7 +100,9 @@ fn find_self_conflict(draft: &Draft) -> Option<Verdict>
 fn is_lost_conflict(tables: &Tables, seniority: &Seniority, a: u8, b: u8, c: u8) -> bool
     ensures { λ r. ⌜ r ≡ lost-conflict (now (seniority .entry) .rows) (now (tables .entry)) a b c ⌝ }
 {
-    seniority.is_senior(a, b) && row_holds(&tables.ssd.partners, b, c) && !row_holds(&tables.ssd.partners, a, c)
+    seniority.is_senior(a, b)
+        && row_holds(&tables.ssd.partners, b, c)
+        && !row_holds(&tables.ssd.partners, a, c)
 }
 
 // A senior role without the static conflict of its junior: the first triple of all, then left by the label.
@@ -104,7 +115,11 @@ fn find_lost_conflict(draft: &Draft, seniority: &Seniority) -> Option<Verdict>
             for junior in 0..roles {
                 for other in 0..roles {
                     if is_lost_conflict(&draft.tables, seniority, senior, junior, other) {
-                        break 'search Some(Verdict::LostConflict { senior, junior, other });
+                        break 'search Some(Verdict::LostConflict {
+                            senior,
+                            junior,
+                            other,
+                        });
                     }
                 }
             }
@@ -146,7 +161,12 @@ fn lost_user(tables: &Tables, senior: u8, junior: u8, first: u8) -> Option<Verdi
     let below = tables.conflicting.partners[junior as usize][first as usize];
     let above = tables.conflicting.partners[senior as usize][first as usize];
     match below.difference(above).lowest() {
-        Some(second) => Some(Verdict::LostUsers { senior, junior, first, second }),
+        Some(second) => Some(Verdict::LostUsers {
+            senior,
+            junior,
+            first,
+            second,
+        }),
         None => None,
     }
 }

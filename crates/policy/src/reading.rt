@@ -32,6 +32,13 @@ use records::fault::Fault;
 use sets::RoleSet;
 use sets::UserSet;
 
+// The sizes of a bare draft.
+const ONE_EACH: Sizes = Sizes {
+    users: 1,
+    roles: 1,
+    sessions: 1,
+};
+
 // Tables with these sizes, and nothing else.
 fn only(sizes: Sizes) -> Tables
     ensures { λ r. ⌜ r ≡ only sizes ⌝ }
@@ -42,9 +49,18 @@ fn only(sizes: Sizes) -> Tables
         hierarchy: Hierarchy { juniors: no_roles },
         ssd: RoleConflicts { partners: no_roles },
         dsd: RoleConflicts { partners: no_roles },
-        conflicting: UserConflicts { partners: [[UserSet { bits: 0 }; 64]; 32] },
-        limits: Limits { users: [None; 32], roles: [None; 64], active: [None; 64], sessions: [None; 32] },
-        requirements: Requirements { sets: [no_roles; 6] },
+        conflicting: UserConflicts {
+            partners: [[UserSet { bits: 0 }; 64]; 32],
+        },
+        limits: Limits {
+            users: [None; 32],
+            roles: [None; 64],
+            active: [None; 64],
+            sessions: [None; 32],
+        },
+        requirements: Requirements {
+            sets: [no_roles; 6],
+        },
         dependencies: Dependencies { needs: no_roles },
     }
 }
@@ -66,21 +82,33 @@ fn in_range(sizes: Sizes, entry: Entry) -> bool
     ensures { λ r. ⌜ r ≡ in-range sizes entry ⌝ }
 {
     match entry {
-        Entry::Sizes { users, roles, sessions } => {
-            (1 <= users && users <= 64) && (1 <= roles && roles <= 32) && (1 <= sessions && sessions <= 64)
+        Entry::Sizes {
+            users,
+            roles,
+            sessions,
+        } => {
+            (1 <= users && users <= 64)
+                && (1 <= roles && roles <= 32)
+                && (1 <= sessions && sessions <= 64)
         }
         Entry::Inherits { senior, junior } => senior < sizes.roles && junior < sizes.roles,
         Entry::StaticPair { first, second } | Entry::DynamicPair { first, second } => {
             first < sizes.roles && second < sizes.roles
         }
-        Entry::ConflictingUsers { role, first, second } => {
-            role < sizes.roles && first < sizes.users && second < sizes.users
-        }
-        Entry::LimitOfRoleUsers { role, .. } | Entry::LimitOfRoleSessions { role, .. } => role < sizes.roles,
-        Entry::LimitOfUserRoles { user, .. } | Entry::LimitOfUserActive { user, .. } => user < sizes.users,
-        Entry::Required { condition, role, required } => {
-            (1 <= condition && condition <= 6) && role < sizes.roles && required < sizes.roles
-        }
+        Entry::ConflictingUsers {
+            role,
+            first,
+            second,
+        } => { role < sizes.roles && first < sizes.users && second < sizes.users }
+        Entry::LimitOfRoleUsers { role, .. } | Entry::LimitOfRoleSessions { role, .. } => role
+            < sizes.roles,
+        Entry::LimitOfUserRoles { user, .. } | Entry::LimitOfUserActive { user, .. } => user
+            < sizes.users,
+        Entry::Required {
+            condition,
+            role,
+            required,
+        } => { (1 <= condition && condition <= 6) && role < sizes.roles && required < sizes.roles }
         Entry::Dependency { role, needs } => role < sizes.roles && needs < sizes.roles,
         Entry::End => true,
     }
@@ -101,7 +129,11 @@ fn differs(entry: Entry) -> bool
 fn is_free(limits: &[Option<u8>], subject: u8) -> bool
     ensures { λ r. ⌜ r ≡ not (isSome (getD (now (limits .entry)) subject None)) ⌝ }
 {
-    if (subject as usize) < limits.len() { limits[subject as usize].is_none() } else { true }
+    if (subject as usize) < limits.len() {
+        limits[subject as usize].is_none()
+    } else {
+        true
+    }
 }
 
 // Whether the subject of a limit had none.
@@ -134,16 +166,44 @@ fn enter(tables: &mut Tables, entry: Entry)
     ensures { λ _. ⌜ now (tables .exit) ≡ entered (now (tables .entry)) entry ⌝ }
 {
     match entry {
-        Entry::Sizes { users, roles, sessions } => *tables = only(Sizes { users, roles, sessions }),
-        Entry::Inherits { senior, junior } => add_role(&mut tables.hierarchy.juniors, senior, junior),
+        Entry::Sizes {
+            users,
+            roles,
+            sessions,
+        } => *tables = only(Sizes {
+            users,
+            roles,
+            sessions,
+        }),
+        Entry::Inherits { senior, junior } => add_role(
+            &mut tables.hierarchy.juniors,
+            senior,
+            junior,
+        ),
         Entry::StaticPair { first, second } => add_pair(&mut tables.ssd.partners, first, second),
         Entry::DynamicPair { first, second } => add_pair(&mut tables.dsd.partners, first, second),
-        Entry::ConflictingUsers { role, first, second } => add_users(&mut tables.conflicting.partners, role, first, second),
+        Entry::ConflictingUsers {
+            role,
+            first,
+            second,
+        } => add_users(&mut tables.conflicting.partners, role, first, second),
         Entry::LimitOfRoleUsers { role, limit } => set_limit(&mut tables.limits.users, role, limit),
         Entry::LimitOfUserRoles { user, limit } => set_limit(&mut tables.limits.roles, user, limit),
-        Entry::LimitOfUserActive { user, limit } => set_limit(&mut tables.limits.active, user, limit),
-        Entry::LimitOfRoleSessions { role, limit } => set_limit(&mut tables.limits.sessions, role, limit),
-        Entry::Required { condition, role, required } => add_required(&mut tables.requirements, condition, role, required),
+        Entry::LimitOfUserActive { user, limit } => set_limit(
+            &mut tables.limits.active,
+            user,
+            limit,
+        ),
+        Entry::LimitOfRoleSessions { role, limit } => set_limit(
+            &mut tables.limits.sessions,
+            role,
+            limit,
+        ),
+        Entry::Required {
+            condition,
+            role,
+            required,
+        } => add_required(&mut tables.requirements, condition, role, required),
         Entry::Dependency { role, needs } => add_role(&mut tables.dependencies.needs, role, needs),
         Entry::End => {}
     }
@@ -175,7 +235,7 @@ fn read_tables(bytes: &[u8]) -> Result<(Tables, usize), Fault>
     ensures answer { λ r. ⌜ r ≡ reading (now (bytes .entry)) ⌝ }
     ensures tables { λ r. ⌜ made r (λ p. WellFormed (p .0)) ⌝ }
 {
-    let mut tables = only(Sizes { users: 1, roles: 1, sessions: 1 });
+    let mut tables = only(ONE_EACH);
     let mut rest = bytes;
     let mut at = 0;
     loop {
@@ -194,7 +254,9 @@ impl Draft {
     pub fn bare() -> Draft
         ensures { λ r. ⌜ r .tables ≡ bare ⌝ }
     {
-        Draft { tables: only(Sizes { users: 1, roles: 1, sessions: 1 }) }
+        Draft {
+            tables: only(ONE_EACH),
+        }
     }
 
     // Reads a policy up to its end record, and answers how many bytes that took; after a refusal the draft is bare.

@@ -7,7 +7,6 @@ ghost use Rattle.policy.specs.Entries.{holds};
 ghost use Rattle.policy.specs.Seniority.{extended, gathered, closure, only-itself, spread-rows, Tells-seniority};
 use crate::draft::Draft;
 use crate::rows::row_holds;
-
 use sets::RoleSet;
 
 // For each role, the roles that it is senior to: itself, and all that it inherits step by step.
@@ -66,7 +65,11 @@ fn gather(rows: &[RoleSet; 32], chosen: RoleSet) -> RoleSet
 fn extend(row: RoleSet, role: u8, below: RoleSet) -> RoleSet
     ensures { λ r. ⌜ r ≡ extended role (below .bits) row ⌝ }
 {
-    if row.contains(role) { row.union(below) } else { row }
+    if row.contains(role) {
+        row.union(below)
+    } else {
+        row
+    }
 }
 
 // Every row that has the role gets the roles below it.

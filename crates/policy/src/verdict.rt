@@ -6,15 +6,32 @@ ghost use Rattle.policy.specs.Verdicts.{number-of, names-of};
 pub enum Verdict {
     Passed,
     // two different roles are each senior to the other
-    Cycle { first: u8, second: u8 },
+    Cycle {
+        first: u8,
+        second: u8,
+    },
     // a role is in static or dynamic conflict with itself
-    SelfConflict { role: u8 },
+    SelfConflict {
+        role: u8,
+    },
     // `junior` is in static conflict with `other`, and its senior is not
-    LostConflict { senior: u8, junior: u8, other: u8 },
+    LostConflict {
+        senior: u8,
+        junior: u8,
+        other: u8,
+    },
     // a pair is in both static and dynamic conflict
-    BothConflicts { first: u8, second: u8 },
+    BothConflicts {
+        first: u8,
+        second: u8,
+    },
     // two users conflict for `junior`, and not for its senior
-    LostUsers { senior: u8, junior: u8, first: u8, second: u8 },
+    LostUsers {
+        senior: u8,
+        junior: u8,
+        first: u8,
+        second: u8,
+    },
 }
 
 impl Verdict {
@@ -40,9 +57,18 @@ impl Verdict {
             Verdict::Passed => [0, 0, 0, 0],
             Verdict::Cycle { first, second } => [first, second, 0, 0],
             Verdict::SelfConflict { role } => [role, 0, 0, 0],
-            Verdict::LostConflict { senior, junior, other } => [senior, junior, other, 0],
+            Verdict::LostConflict {
+                senior,
+                junior,
+                other,
+            } => [senior, junior, other, 0],
             Verdict::BothConflicts { first, second } => [first, second, 0, 0],
-            Verdict::LostUsers { senior, junior, first, second } => [senior, junior, first, second],
+            Verdict::LostUsers {
+                senior,
+                junior,
+                first,
+                second,
+            } => [senior, junior, first, second],
         }
     }
 }

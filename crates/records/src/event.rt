@@ -25,14 +25,29 @@ fn decode(kind: u8, body: &[u8]) -> Option<Event>
     ensures { λ r. ⌜ r ≡ event-of kind (now (body .entry)) ⌝ }
 {
     match (kind, body) {
-        (32, [user, role]) => Some(Event::Assign { user: *user, role: *role }),
-        (33, [user, role]) => Some(Event::Deassign { user: *user, role: *role }),
+        (32, [user, role]) => Some(Event::Assign {
+            user: *user,
+            role: *role,
+        }),
+        (33, [user, role]) => Some(Event::Deassign {
+            user: *user,
+            role: *role,
+        }),
         (34, [role]) => Some(Event::Enable { role: *role }),
         (35, [role]) => Some(Event::Disable { role: *role }),
-        (36, [session, user]) => Some(Event::Open { session: *session, user: *user }),
+        (36, [session, user]) => Some(Event::Open {
+            session: *session,
+            user: *user,
+        }),
         (37, [session]) => Some(Event::Close { session: *session }),
-        (38, [session, role]) => Some(Event::Activate { session: *session, role: *role }),
-        (39, [session, role]) => Some(Event::Deactivate { session: *session, role: *role }),
+        (38, [session, role]) => Some(Event::Activate {
+            session: *session,
+            role: *role,
+        }),
+        (39, [session, role]) => Some(Event::Deactivate {
+            session: *session,
+            role: *role,
+        }),
         _ => None,
     }
 }

@@ -1,4 +1,5 @@
 -- What the first line of the roll says of an input. Assumes nothing.
+use mathlib.Core.Path.{_≡_}
 use mathlib.Core.List.{List, [], _∷_}
 use mathlib.Core.Bool.{cond}
 use Prim.Native.Nat.{ℕ}
@@ -8,6 +9,8 @@ use Rattle.std.specs.declared.result.Result.the-variants.{Ok, Err}
 use Rattle.records.specs.declared.fault.Fault.{Fault}
 use Rattle.records.specs.Faults as faults
 use Rattle.policy.specs.declared.tables.Tables.{Tables}
+use Rattle.policy.specs.declared.verdict.Verdict.{Verdict}
+use Rattle.policy.specs.Questions.{Vetted}
 use Rattle.policy.specs.Reading.{reading}
 use Rattle.policy.specs.Search.{verdict}
 use Rattle.policy.specs.Verdicts.{number-of, names-of}
@@ -22,3 +25,8 @@ line-of (Ok p) = record { number = number-of (verdict (p .0)); figure = p .1; na
 abbrev pub held-after : Result (Tables × ℕ) Fault → Tables → Tables
 held-after (Err f) held = held
 held-after (Ok p) held = cond (eqb (number-of (verdict (p .0))) 0) (p .0) held
+
+-- where a policy was read, the line says the right verdict on it: that of the five questions
+abbrev pub Right-line : Result (Tables × ℕ) Fault → PolicyLine → Type 0
+Right-line (Err f) l = Unit {0}
+Right-line (Ok p) l = (v : Verdict) × (l .number ≡ number-of v) × (l .names ≡ names-of v) × Vetted (p .0) v

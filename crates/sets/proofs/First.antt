@@ -73,9 +73,9 @@ all-none k f e =
 -- a loop's step, and its end
 pub none-more : {A : Type 0} (k : ℕ) (f : ℕ → Option A) → first-of k f ≡ None → f k ≡ None → first-of (k + 1) f ≡ None
 none-more k f e h = none-all (k + 1) f (λ j l. elim (cases-lt j k) [
-    | inl p ↦ all-none k f e j p
-    | inr p ↦ ap f (let q : j ≡ k = omega arith in q) ∙ h
-    ])
+  | inl p ↦ all-none k f e j p
+  | inr p ↦ ap f (let q : j ≡ k = omega arith in q) ∙ h
+])
 
 pub none-end : {A : Type 0} (n : ℕ) (f : ℕ → Option A) (k : ℕ) → n ≤ k → first-of k f ≡ None → first-of n f ≡ None
 none-end n f k l e = none-all n f (λ j m. all-none k f e j (omega arith))
@@ -108,10 +108,11 @@ pub first-some : (k : ℕ) (f : ℕ → Bool) (m : ℕ) → first-below k f ≡ 
 first-some k f m e =
     let s = found k (λ i. cond (f i) (Some i) None) m e in
     let c = chosen (f (s .at)) (s .at) m (s .answers) in
-    record
-    { within = omega (arith, s .within, c .1)
-    ; passes = ap f (sym (c .1)) ∙ c .0
-    ; before = λ j l. left-out (f j) j (s .before j (omega (arith, c .1))) }
+    record {
+      within = omega (arith, s .within, c .1);
+      passes = ap f (sym (c .1)) ∙ c .0;
+      before = λ j l. left-out (f j) j (s .before j (omega (arith, c .1)));
+    }
 
 pub first-none : (k : ℕ) (f : ℕ → Bool) → first-below k f ≡ None → (j : ℕ) → j < k → f j ≡ false
 first-none k f e j l = left-out (f j) j (all-none k (λ i. cond (f i) (Some i) None) e j l)

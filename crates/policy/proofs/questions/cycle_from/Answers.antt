@@ -14,7 +14,7 @@ loop-second-holds c = refl
 pub returns-then-is-cycle : need.returns-then-is-cycle
 returns-then-is-cycle c =
     sym (found-here (c .args .roles) (cycle-at (c .args .seniority .now .rows) (c .args .first)) (c .loop-second .second) (Cycle (c .args .first) (c .loop-second .second))
-        (c .loop-second-test .taken) (c .loop-second .inv) (cond-true _ (Some (Cycle (c .args .first) (c .loop-second .second))) None (sym (c .if-is-cycle .ensures tt))))
+    (c .loop-second-test .taken) (c .loop-second .inv) (cond-true _ (Some (Cycle (c .args .first) (c .loop-second .second))) None (sym (c .if-is-cycle .ensures tt))))
 
 pub loop-second-again : need.loop-second-again
 loop-second-again c = none-more (c .loop-second .second) (cycle-at (c .args .seniority .now .rows) (c .args .first)) (c .loop-second .inv) (cond-false _ (Some (Cycle (c .args .first) (c .loop-second .second))) None (sym (c .if-is-cycle .ensures tt)))

@@ -11,7 +11,7 @@ loop-first-holds c = refl
 pub returns-in-Some : need.returns-in-Some
 returns-in-Some c =
     sym (found-here (c .args .draft .now .tables .sizes .roles) (λ a. first-of 32 (both-conflicts-at (c .args .draft .now .tables) a)) (c .loop-first .first) (c .in-Some .found)
-        (c .loop-first-test .taken) (c .loop-first .inv) (sym (c .in-Some .ensures tt)))
+    (c .loop-first-test .taken) (c .loop-first .inv) (sym (c .in-Some .ensures tt)))
 
 pub loop-first-again : need.loop-first-again
 loop-first-again c = none-more (c .loop-first .first) (λ a. first-of 32 (both-conflicts-at (c .args .draft .now .tables) a)) (c .loop-first .inv) (sym (c .in-rest .ensures tt))

@@ -50,5 +50,5 @@ returns-then-is-lost-conflict c =
     let b = c .loop-junior .junior in
     let x = LostConflict a b (c .loop-other .other) in
     sym (found-here n (λ i. first-of n (λ j. first-of n (at i j))) a x (c .loop-senior-test .taken) (c .loop-senior .inv)
-        (found-here n (λ j. first-of n (at a j)) b x (c .loop-junior-test .taken) (c .loop-junior .inv)
-        (found-here n (at a b) (c .loop-other .other) x (c .loop-other-test .taken) (c .loop-other .inv) (cond-true _ (Some x) None (sym (c .if-is-lost-conflict .ensures tt))))))
+    (found-here n (λ j. first-of n (at a j)) b x (c .loop-junior-test .taken) (c .loop-junior .inv)
+    (found-here n (at a b) (c .loop-other .other) x (c .loop-other-test .taken) (c .loop-other .inv) (cond-true _ (Some x) None (sym (c .if-is-lost-conflict .ensures tt))))))

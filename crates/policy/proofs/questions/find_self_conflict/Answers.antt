@@ -14,7 +14,7 @@ loop-role-holds c = refl
 pub returns-then-is-self-conflict : need.returns-then-is-self-conflict
 returns-then-is-self-conflict c =
     sym (found-here (c .args .draft .now .tables .sizes .roles) (self-conflict-at (c .args .draft .now .tables)) (c .loop-role .role) (SelfConflict (c .loop-role .role))
-        (c .loop-role-test .taken) (c .loop-role .inv) (cond-true _ (Some (SelfConflict (c .loop-role .role))) None (sym (c .if-is-self-conflict .ensures tt))))
+    (c .loop-role-test .taken) (c .loop-role .inv) (cond-true _ (Some (SelfConflict (c .loop-role .role))) None (sym (c .if-is-self-conflict .ensures tt))))
 
 pub loop-role-again : need.loop-role-again
 loop-role-again c = none-more (c .loop-role .role) (self-conflict-at (c .args .draft .now .tables)) (c .loop-role .inv) (cond-false _ (Some (SelfConflict (c .loop-role .role))) None (sym (c .if-is-self-conflict .ensures tt)))

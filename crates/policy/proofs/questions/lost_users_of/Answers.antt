@@ -13,9 +13,9 @@ loop-first-holds c = refl
 pub returns-in-Some : need.returns-in-Some
 returns-in-Some c =
     sym (cond-true _ (first-of (c .args .draft .now .tables .sizes .users) (λ u. first-of 64 (lost-user-at (c .args .draft .now .tables) (c .args .senior) (c .args .junior) u))) None
-            (sym (c .if-not-is-senior .ensures tt))
-        ∙ found-here (c .args .draft .now .tables .sizes .users) (λ u. first-of 64 (lost-user-at (c .args .draft .now .tables) (c .args .senior) (c .args .junior) u)) (c .loop-first .first) (c .in-Some .found)
-        (c .loop-first-test .taken) (c .loop-first .inv) (sym (c .in-Some .ensures tt)))
+    (sym (c .if-not-is-senior .ensures tt))
+    ∙ found-here (c .args .draft .now .tables .sizes .users) (λ u. first-of 64 (lost-user-at (c .args .draft .now .tables) (c .args .senior) (c .args .junior) u)) (c .loop-first .first) (c .in-Some .found)
+    (c .loop-first-test .taken) (c .loop-first .inv) (sym (c .in-Some .ensures tt)))
 
 pub loop-first-again : need.loop-first-again
 loop-first-again c = none-more (c .loop-first .first) (λ u. first-of 64 (lost-user-at (c .args .draft .now .tables) (c .args .senior) (c .args .junior) u)) (c .loop-first .inv) (sym (c .in-rest .ensures tt))

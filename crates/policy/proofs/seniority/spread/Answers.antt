@@ -9,7 +9,7 @@ pub loop-at-again : need.loop-at-again
 loop-at-again c =
     ap (λ (s : RoleSet). set (c .loop-at .next) (c .loop-at .at) s) (c .extend .ensures)
     ∙ map-row (extended (c .args .role) (c .args .below .bits)) (c .args .rows .now) (c .loop-at .next) (c .loop-at .at)
-      (c .told-rows) (c .loop-at-test .taken) (c .loop-at .inv)
+    (c .told-rows) (c .loop-at-test .taken) (c .loop-at .inv)
 
 pub returns : need.returns
 returns c =

@@ -22,11 +22,12 @@ judged bytes count v e h = (e, subst (Vetted (drafted (reading bytes))) h (verdi
 
 worked : Worked
 unfolding body-length read-from only first-of has union with-member gathered closed-below
-worked = record
-    { the-sample-passes = judged sample 17 Passed refl refl
-    ; a-senior-lacks-a-conflict = judged unpaired 14 (LostConflict 0 1 2) refl refl
-    ; in-conflict-with-itself = judged selfpaired 8 (SelfConflict 2) refl refl
-    ; inheriting-each-other = judged cyclic 11 (Cycle 0 1) refl refl }
+worked = record {
+  the-sample-passes = judged sample 17 Passed refl refl;
+  a-senior-lacks-a-conflict = judged unpaired 14 (LostConflict 0 1 2) refl refl;
+  in-conflict-with-itself = judged selfpaired 8 (SelfConflict 2) refl refl;
+  inheriting-each-other = judged cyclic 11 (Cycle 0 1) refl refl;
+}
 
 pub returns : need.returns
 returns c = record { value = (refl, refl, refl, refl); law = worked }

@@ -6,7 +6,8 @@ use Rattle.records.proofs.event.take_event.Needs as need
 pub returns-in-Some : need.returns-in-Some
 returns-in-Some c =
     let t = c .in-Continue-kind .ensures tt in
-    record
-    { value = decoded Events event-of (c .args .bytes .now) (c .args .at) (c .in-Continue-kind .kind) (c .in-Continue-kind .body .now)
-        (c .in-Continue-kind .rest .now) (c .in-Some .event) (t .value) (c .in-Some .ensures tt)
-    ; shorter = t .shorter }
+    record {
+      value = decoded Events event-of (c .args .bytes .now) (c .args .at) (c .in-Continue-kind .kind) (c .in-Continue-kind .body .now)
+          (c .in-Continue-kind .rest .now) (c .in-Some .event) (t .value) (c .in-Some .ensures tt);
+      shorter = t .shorter;
+    }

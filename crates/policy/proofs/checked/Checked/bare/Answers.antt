@@ -8,6 +8,7 @@ use Rattle.policy.proofs.Bare.{bare-passes}
 use Rattle.policy.proofs.checked.Checked.bare.Needs as need
 
 pub ghost-result : need.ghost-result
-ghost-result c =
-    ((λ a. ap (λ (rows : List RoleSet). getD rows a no-roles .bits) (c .of-seniority .ensures .value))
-    , (subst Passes (sym (c .bare-draft .ensures)) bare-passes, tt))
+ghost-result c = (
+  (λ a. ap (λ (rows : List RoleSet). getD rows a no-roles .bits) (c .of-seniority .ensures .value)),
+  (subst Passes (sym (c .bare-draft .ensures)) bare-passes, tt),
+)

@@ -22,6 +22,7 @@ returns c =
     let d = c .args .draft .now in
     let juniors = d .tables .hierarchy .juniors in
     let is : c .loop-role .rows ≡ closure juniors = c .loop-role .inv ∙ ap (λ (k : ℕ). closed-below k juniors) (omega arith) in
-    record
-    { value = is
-    ; tells = subst (Tells-seniority juniors) (sym is) (closure-tells juniors (d .tables .sizes .roles) (d .rolesized .1) (d .juniorwithin)) }
+    record {
+      value = is;
+      tells = subst (Tells-seniority juniors) (sym is) (closure-tells juniors (d .tables .sizes .roles) (d .rolesized .1) (d .juniorwithin));
+    }
