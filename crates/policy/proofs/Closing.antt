@@ -81,14 +81,14 @@ closed-length (suc k) juniors =
     length-map rows (extended k (gathered rows (getD juniors k no-roles) 32)) ∙ closed-length k juniors
 
 -- a row past the table holds nothing
-held-inside : (rows : List RoleSet) (a b : ℕ) → length rows ≡ 32 → holds rows a b ≡ true → a < 32
+pub held-inside : (rows : List RoleSet) (a b : ℕ) → length rows ≡ 32 → holds rows a b ≡ true → a < 32
 held-inside rows a b len h =
     elim (cases-lt a 32) [
       | inl l ↦ l
       | inr l ↦ absurd (both-ways (holds rows a b) (ap (λ (s : RoleSet). has (s .bits) b) (getD-past rows a no-roles (omega arith)) ∙ has-zero b) h)
     ]
 
-gathered-in : (rows : List RoleSet) (chosen : RoleSet) (m c b : ℕ) → c < m → has (chosen .bits) c ≡ true → holds rows c b ≡ true
+pub gathered-in : (rows : List RoleSet) (chosen : RoleSet) (m c b : ℕ) → c < m → has (chosen .bits) c ≡ true → holds rows c b ≡ true
     → has (gathered rows chosen m) b ≡ true
 unfolding gathered
 gathered-in rows chosen zero c b l h r = absurd (omega arith)
@@ -112,7 +112,7 @@ gathered-in rows chosen (suc m) c b l h r =
     row : ℕ
     row = getD rows m no-roles .bits
 
-gathered-out : (rows : List RoleSet) (chosen : RoleSet) (m b : ℕ) → has (gathered rows chosen m) b ≡ true
+pub gathered-out : (rows : List RoleSet) (chosen : RoleSet) (m b : ℕ) → has (gathered rows chosen m) b ≡ true
     → (c : ℕ) × (has (chosen .bits) c ≡ true) × (holds rows c b ≡ true)
 unfolding gathered
 gathered-out rows chosen zero b h = absurd (both-ways (has 0 b) (has-zero b) h)
@@ -132,6 +132,15 @@ gathered-out rows chosen (suc m) b h =
 
     row : ℕ
     row = getD rows m no-roles .bits
+
+-- the same rows give the same
+pub gathered-same : (rows others : List RoleSet) (chosen : RoleSet) (m : ℕ) → ((a : ℕ) → getD rows a no-roles .bits ≡ getD others a no-roles .bits)
+    → gathered rows chosen m ≡ gathered others chosen m
+unfolding gathered
+gathered-same rows others chosen zero same = refl
+gathered-same rows others chosen (suc m) same =
+    ap (λ (n : ℕ). cond (has (chosen .bits) m) (union n (getD rows m no-roles .bits)) n) (gathered-same rows others chosen m same)
+    ∙ ap (λ (n : ℕ). cond (has (chosen .bits) m) (union (gathered others chosen m) n) (gathered others chosen m)) (same m)
 
 -- one row, extended
 extended-has : (k below b : ℕ) (row : RoleSet) → has (row .bits) k ≡ true → has (extended k below row .bits) b ≡ (has (row .bits) b || has below b)

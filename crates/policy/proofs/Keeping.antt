@@ -18,7 +18,6 @@ use Rattle.sets.specs.declared.users.UserSet.{UserSet}
 use Rattle.policy.specs.declared.tables.Sizes.{Sizes as Counts}
 use Rattle.policy.specs.declared.tables.Limits.{Limits}
 use Rattle.policy.specs.declared.tables.Requirements.{Requirements}
-use Rattle.policy.specs.declared.tables.Dependencies.{Dependencies}
 use Rattle.policy.specs.declared.tables.Tables.{Tables}
 use Rattle.policy.specs.Entries.{no-roles, no-users, holds, holds-user}
 use Rattle.policy.specs.WellFormed.{Sized, Wide, Within, Mutual, WellFormed}
@@ -52,13 +51,14 @@ Users s rows = (length rows ≡ 32) × ((r : ℕ) → Row s r (getD rows r []))
 
 -- well-formed tables from these facts, and the facts from well-formed tables
 from-parts : {t : Tables} → let n : ℕ = t .sizes .roles in
-    Counted (t .sizes) → Within n (t .hierarchy .juniors) → Pairs n (t .ssd .partners) → Pairs n (t .dsd .partners)
+    Counted (t .sizes) → Within n (t .hierarchy .juniors) → Within n (t .dependencies .needs) → Pairs n (t .ssd .partners) → Pairs n (t .dsd .partners)
     → Users (t .sizes) (t .conflicting .partners) → WellFormed t
-from-parts z j p q c = record {
+from-parts z j d p q c = record {
   users-sized = z .0;
   roles-sized = z .1;
   sessions-sized = z .2;
   juniors-within = j;
+  needs-within = d;
   ssd-wide = p .0;
   ssd-within = p .1;
   ssd-mutual = p .2;
@@ -84,8 +84,8 @@ module _ {t : Tables} (w : WellFormed t) where
   users-of : Users (t .sizes) (t .conflicting .partners)
   users-of = (w .users-wide .0, λ r. (w .users-wide .1 r, (λ u v. w .users-within (r, u, v)), w .users-mutual r, w .users-apart r))
 
-  -- limits, requirements and dependencies may be any
-  aside : (l : Limits) (q : Requirements) (n : Dependencies) → WellFormed (record {
+  -- limits and requirements may be any
+  aside : (l : Limits) (q : Requirements) → WellFormed (record {
     sizes = t .sizes;
     hierarchy = t .hierarchy;
     ssd = t .ssd;
@@ -93,9 +93,9 @@ module _ {t : Tables} (w : WellFormed t) where
     conflicting = t .conflicting;
     limits = l;
     requirements = q;
-    dependencies = n;
+    dependencies = t .dependencies;
   })
-  aside l q n = from-parts counted-of (w .juniors-within) ssd-of dsd-of users-of
+  aside l q = from-parts counted-of (w .juniors-within) (w .needs-within) ssd-of dsd-of users-of
 
 -- empty tables
 
@@ -124,7 +124,7 @@ empty-users s = (
 
 pub only-well-formed : (s : Counts) → Counted s → WellFormed (only s)
 unfolding only
-only-well-formed s h = let p = empty-pairs (s .roles) in from-parts h (p .1) p p (empty-users s)
+only-well-formed s h = let p = empty-pairs (s .roles) in from-parts h (p .1) (p .1) p p (empty-users s)
 
 -- one pair more
 
@@ -175,27 +175,31 @@ entered-well-formed t (Inherits a b) w i d =
     let n : ℕ = t .sizes .roles in
     let j : Within n (with-role (t .hierarchy .juniors) a b) =
     more-within roles (λ x y. (x < n) × (y < n)) (t .hierarchy .juniors) a b (below a b n i) (w .juniors-within) in
-    from-parts (counted-of w) j (ssd-of w) (dsd-of w) (users-of w)
+    from-parts (counted-of w) j (w .needs-within) (ssd-of w) (dsd-of w) (users-of w)
 entered-well-formed t (StaticPair a b) w i d =
     let n : ℕ = t .sizes .roles in
     let p = pair-kept n (t .ssd .partners) a b (w .roles-sized .1) (below a b n i) (ssd-of w) in
-    from-parts (counted-of w) (w .juniors-within) p (dsd-of w) (users-of w)
+    from-parts (counted-of w) (w .juniors-within) (w .needs-within) p (dsd-of w) (users-of w)
 entered-well-formed t (DynamicPair a b) w i d =
     let n : ℕ = t .sizes .roles in
     let p = pair-kept n (t .dsd .partners) a b (w .roles-sized .1) (below a b n i) (dsd-of w) in
-    from-parts (counted-of w) (w .juniors-within) (ssd-of w) p (users-of w)
+    from-parts (counted-of w) (w .juniors-within) (w .needs-within) (ssd-of w) p (users-of w)
 entered-well-formed t (ConflictingUsers r u v) w i d =
     let s : Counts = t .sizes in
     let p = and-parts (ltb r (s .roles)) (ltb u (s .users) && ltb v (s .users)) i in
     let c = users-kept s (t .conflicting .partners) r u v (counted-of w) (ltb-true r (s .roles) (p .0)) (below u v (s .users) (p .1))
     (eqb-false u v (not-true (eqb u v) d)) (users-of w) in
-    from-parts (counted-of w) (w .juniors-within) (ssd-of w) (dsd-of w) c
-entered-well-formed t (LimitOfRoleUsers r n) w i d = aside w _ _ _
-entered-well-formed t (LimitOfUserRoles u n) w i d = aside w _ _ _
-entered-well-formed t (LimitOfUserActive u n) w i d = aside w _ _ _
-entered-well-formed t (LimitOfRoleSessions r n) w i d = aside w _ _ _
-entered-well-formed t (Required k a b) w i d = aside w _ _ _
-entered-well-formed t (Dependency a b) w i d = aside w _ _ _
+    from-parts (counted-of w) (w .juniors-within) (w .needs-within) (ssd-of w) (dsd-of w) c
+entered-well-formed t (LimitOfRoleUsers r n) w i d = aside w _ _
+entered-well-formed t (LimitOfUserRoles u n) w i d = aside w _ _
+entered-well-formed t (LimitOfUserActive u n) w i d = aside w _ _
+entered-well-formed t (LimitOfRoleSessions r n) w i d = aside w _ _
+entered-well-formed t (Required k a b) w i d = aside w _ _
+entered-well-formed t (Dependency a b) w i d =
+    let n : ℕ = t .sizes .roles in
+    let k : Within n (with-role (t .dependencies .needs) a b) =
+    more-within roles (λ x y. (x < n) × (y < n)) (t .dependencies .needs) a b (below a b n i) (w .needs-within) in
+    from-parts (counted-of w) (w .juniors-within) k (ssd-of w) (dsd-of w) (users-of w)
 entered-well-formed t End w i d = w
 
 -- a record that passed the questions keeps the tables well formed

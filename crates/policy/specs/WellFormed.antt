@@ -48,6 +48,7 @@ pub record WellFormed (t : Tables) : Type 0 where
   pub roles-sized : Sized 32 (t .sizes .roles)
   pub sessions-sized : Sized 64 (t .sizes .sessions)
   pub juniors-within : Within (t .sizes .roles) (t .hierarchy .juniors)
+  pub needs-within : Within (t .sizes .roles) (t .dependencies .needs)
   pub ssd-wide : Wide (t .ssd .partners)
   pub ssd-within : Within (t .sizes .roles) (t .ssd .partners)
   pub ssd-mutual : Mutual (t .ssd .partners)

@@ -1,14 +1,8 @@
-// A policy that passed the five questions.
-ghost use Rattle.policy.specs.Seniority.{Closes};
-ghost use Rattle.policy.specs.Questions.{Passes};
-use crate::draft::Draft;
-use crate::seniority::Seniority;
+// The checked policy that a caller holds.
+use crate::approved::Approved;
 
-// The draft and its hierarchy closed; no value of this type fails a question.
-#[derive(Clone, Copy)]
+// It is filled by the check, and used up by whoever begins a monitor from it: it is moved, never copied.
+#[derive(Drop)]
 pub struct Checked {
-    pub draft: Draft,
-    pub seniority: Seniority,
-    ghost closed: { Closes (draft .tables .hierarchy .juniors) (seniority .rows) },
-    ghost passes: { Passes (draft .tables) },
+    pub(crate) policy: Approved,
 }

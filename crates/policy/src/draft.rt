@@ -9,6 +9,7 @@ pub struct Draft {
     ghost rolesized: { Sized 32 (tables .sizes .roles) },
     ghost sessionsized: { Sized 64 (tables .sizes .sessions) },
     ghost juniorwithin: { Within (tables .sizes .roles) (tables .hierarchy .juniors) },
+    ghost needwithin: { Within (tables .sizes .roles) (tables .dependencies .needs) },
     ghost staticwithin: { Within (tables .sizes .roles) (tables .ssd .partners) },
     ghost dynamicwithin: { Within (tables .sizes .roles) (tables .dsd .partners) },
     ghost userwithin: { Users-within (tables .sizes) (tables .conflicting .partners) },

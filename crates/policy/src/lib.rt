@@ -1,4 +1,5 @@
 // What a policy is, how it is read, and when it passes.
+pub mod approved;
 pub mod check;
 pub mod checked;
 pub mod draft;

@@ -35,6 +35,13 @@ impl Seniority {
     {
         row_holds(&self.rows, senior, junior)
     }
+
+    // The roles that some role of the set is senior to.
+    pub fn below(&self, roles: RoleSet) -> RoleSet
+        ensures { λ r. ⌜ r ≡ record { bits = gathered (now (self .entry) .rows) roles 32 } ⌝ }
+    {
+        gather(&self.rows, roles)
+    }
 }
 
 // Each role by itself.
@@ -49,7 +56,7 @@ fn alone() -> [RoleSet; 32]
 }
 
 // The members of the rows of the chosen roles.
-fn gather(rows: &[RoleSet; 32], chosen: RoleSet) -> RoleSet
+pub fn gather(rows: &[RoleSet; 32], chosen: RoleSet) -> RoleSet
     ensures { λ r. ⌜ r ≡ record { bits = gathered (now (rows .entry)) chosen 32 } ⌝ }
 {
     let mut all = RoleSet::empty();

@@ -9,7 +9,7 @@ use policy::draft::Draft;
 pub fn judge(held: &mut Checked, bytes: &[u8]) -> PolicyLine
     ensures answer { λ r. ⌜ r ≡ line-of (reading (now (bytes .entry))) ⌝ }
     ensures law { λ r. ⌜ Right-line (reading (now (bytes .entry))) r ⌝ }
-    ensures policy { λ _. ⌜ now (held .exit) .draft .tables ≡ held-after (reading (now (bytes .entry))) (now (held .entry) .draft .tables) ⌝ }
+    ensures policy { λ _. ⌜ now (held .exit) .policy .draft .tables ≡ held-after (reading (now (bytes .entry))) (now (held .entry) .policy .draft .tables) ⌝ }
 {
     let mut draft = Draft::bare();
     match draft.read(bytes) {

@@ -134,3 +134,11 @@ pub told-first : {A : Type 0} (k : ℕ) (p q : ℕ → Bool) (g : ℕ → A) (o 
     → mapped g o ≡ first-of k (λ i. cond (p i) (Some (g i)) None)
 told-first k p q g o e same =
     ap (mapped g) e ∙ ap (λ (h : ℕ → Bool). mapped g (first-below k h)) (fun-ext same) ∙ mapped-first k p g
+
+-- tests that agree below k have the same least number
+pub first-same : (k : ℕ) (p q : ℕ → Bool) → ((i : ℕ) → i < k → p i ≡ q i) → first-below k p ≡ first-below k q
+unfolding first-of
+first-same zero p q same = refl
+first-same (suc k) p q same =
+    ap (λ (o : Option ℕ). orOther o (cond (p k) (Some k) None)) (first-same k p q (λ i l. same i (omega arith)))
+    ∙ ap (λ (b : Bool). orOther (first-below k q) (cond b (Some k) None)) (same k (omega arith))

@@ -10,7 +10,7 @@ use lib.Bits.{bitAnd, bitOr, or-lt, or-shr, or-mod, and-le-l, and-shr, and-mod, 
 use lib.Count.{ones, ones-step, trailingZeros, under}
 use lib.Dec.{eqb, ltb, eqb·suc-suc, eqb·zero-suc, eqb·suc-zero}
 use Rattle.std.proofs.shelf.Bits.{shr-shr, pow-pos, pow-below, one-shl}
-use Rattle.std.proofs.shelf.Tests.{eq-eqb, ne-eqb, eqb-true, eqb-false, lt-ltb, le-ltb, cases-bool, cases-lt, cases-eq, cond-true, cond-false, and-from, and-left, and-right, not-from-false, false≢true, both-ways}
+use Rattle.std.proofs.shelf.Tests.{eq-eqb, ne-eqb, eqb-true, eqb-false, lt-ltb, le-ltb, cases-bool, cases-lt, cases-eq, cond-true, cond-false, and-from, and-left, and-right, not-from-false, false≢true, both-ways, and-parts}
 use Rattle.std.specs.Options.{isSome, valueOr}
 use Rattle.std.specs.declared.option.Option.{Option}
 use Rattle.std.specs.declared.option.Option.the-variants.{None, Some}
@@ -209,6 +209,33 @@ has-without w n r k h =
       | inl e ↦ has-past w n k h (omega arith) ∙ sym (and-left (has n k) (not (eqb k r)) (has-past w n k h (omega arith)))
       | inr e ↦ and-true (has n k) ∙ ap (λ (t : Bool). has n k && not t) (sym (ne-eqb k r e))
     ]
+
+-- below the width nothing is asked of n; and nothing but members stays
+pub has-without-low : (w n r k : ℕ) → k < w → has (without-member w n r) k ≡ (has n k && not (eqb k r))
+unfolding difference
+has-without-low w n r k l =
+    elim (cases-lt r w) [
+      | inl p ↦ ap (λ (m : ℕ). has m k) (without-within w n r p) ∙ has-masked (pow-below r w p)
+      | inr p ↦ ap (λ (m : ℕ). has m k) (without-past w n r p) ∙ sym (stays (has n k) (eqb k r) (ne-eqb k r (λ e. omega arith)))
+    ]
+  where
+    has-masked : 2 ^ r < 2 ^ w → has (difference w n (2 ^ r)) k ≡ (has n k && not (eqb k r))
+    has-masked q = has-and n (2 ^ w - 1 - 2 ^ r) k ∙ ap (λ (b : Bool). has n k && b) (has-not w (2 ^ r) k q l ∙ ap not (has-bit r k))
+
+    stays : (a b : Bool) → b ≡ false → (a && not b) ≡ a
+    stays true b e = ap not e
+    stays false b e = refl
+
+pub has-without-member : (w n r k : ℕ) → has (without-member w n r) k ≡ true → has n k ≡ true
+unfolding difference
+has-without-member w n r k h =
+    elim (cases-lt r w) [
+      | inl p ↦ kept (sym (ap (λ (m : ℕ). has m k) (without-within w n r p)) ∙ h)
+      | inr p ↦ sym (ap (λ (m : ℕ). has m k) (without-past w n r p)) ∙ h
+    ]
+  where
+    kept : has (difference w n (2 ^ r)) k ≡ true → has n k ≡ true
+    kept q = and-parts (has n k) (has (2 ^ w - 1 - 2 ^ r) k) (sym (has-and n (2 ^ w - 1 - 2 ^ r) k) ∙ q) .0
 
 -- both stay within the width
 

@@ -1,0 +1,3 @@
+pub mod Once
+pub mod Lenient
+pub mod Cases
