@@ -1,0 +1,7 @@
+pub mod Apart
+pub mod Breaches
+pub mod Leaning
+pub mod Limits
+pub mod Piled
+pub mod Required
+pub mod Rivals
