@@ -3,5 +3,6 @@ pub mod cardinality;
 pub mod dependency;
 pub mod house;
 pub mod precedence;
+mod rows;
 pub mod separation;
 pub mod worked;

@@ -8,6 +8,7 @@ ghost use Rattle.sets.specs.First.{first-below};
 ghost use Rattle.sets.specs.Sets.{has};
 ghost use Rattle.policy.specs.Entries.{no-roles};
 ghost use Rattle.families.specs.Precedence.{precedence, required-set, assigned-in, enable-lack, assign-lack, activate-lack, lacking-by, lack-number, lack-subject};
+use crate::rows::row_at;
 use monitor::answer::Reason;
 use monitor::cells::Session;
 use monitor::cells::Whose;
@@ -59,23 +60,12 @@ impl Lack {
     }
 }
 
-// The set of a role; past the roles, an empty one.
-fn set_of(rows: &[RoleSet; 32], role: u8) -> RoleSet
-    ensures { λ r. ⌜ r ≡ getD (now (rows .entry)) role no-roles ⌝ }
-{
-    if role < 32 {
-        rows[role as usize]
-    } else {
-        RoleSet { bits: 0 }
-    }
-}
-
 // The roles that a role requires, by the kind of the requirement.
 fn required_set(tables: &Tables, kind: usize, role: u8) -> RoleSet
     requires { ⌜ kind < 6 ⌝ }
     ensures { λ r. ⌜ r ≡ required-set (now (tables .entry)) kind role ⌝ }
 {
-    set_of(&tables.requirements.sets[kind], role)
+    row_at(&tables.requirements.sets[kind], role)
 }
 
 // The lowest required role that does not stand.

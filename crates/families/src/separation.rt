@@ -13,6 +13,7 @@ ghost use Rattle.monitor.specs.Possible.{Possible};
 ghost use Rattle.families.specs.Family.{Exact};
 ghost use Rattle.families.specs.Separation.{active-for, static-clash, dynamic-clash, user-clash, clash-by, clash-number, clash-subject, separation};
 ghost use Rattle.families.specs.declared.separation.Clash.the-variants.{StaticRole, DynamicRole, ConflictingUser};
+use crate::rows::row_at;
 use monitor::answer::Reason;
 use monitor::cells::Session;
 use monitor::cells::Whose;
@@ -57,17 +58,6 @@ impl Clash {
     }
 }
 
-// The row at a place; past the rows there is an empty one.
-fn row(rows: &[RoleSet; 32], at: u8) -> RoleSet
-    ensures { λ r. ⌜ r ≡ getD (now (rows .entry)) at no-roles ⌝ }
-{
-    if at < 32 {
-        rows[at as usize]
-    } else {
-        RoleSet { bits: 0 }
-    }
-}
-
 // The users in conflict with a user for a role.
 fn conflicting(table: &UserConflicts, role: u8, user: u8) -> UserSet
     requires { ⌜ role < 32 ⌝ ∗ ⌜ user < 64 ⌝ }
@@ -107,7 +97,7 @@ fn assign_clash(policy: &Approved, state: &State, user: u8, role: u8) -> Option<
 {
     match state
         .authorised(user)
-        .intersection(row(&policy.draft.tables.ssd.partners, role))
+        .intersection(row_at(&policy.draft.tables.ssd.partners, role))
         .lowest() {
         Some(role) => Some(Clash::StaticRole { role }),
         None => None,
@@ -120,7 +110,7 @@ fn dynamic_clash(policy: &Approved, state: &State, owner: u8, role: u8) -> Optio
 {
     let active = state.active_in(Whose::User { user: owner });
     match active
-        .intersection(row(&policy.draft.tables.dsd.partners, role))
+        .intersection(row_at(&policy.draft.tables.dsd.partners, role))
         .lowest() {
         Some(role) => Some(Clash::DynamicRole { role }),
         None => None,

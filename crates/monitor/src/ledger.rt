@@ -5,8 +5,8 @@ use policy::approved::Approved;
 
 #[derive(Clone, Copy)]
 pub struct Ledger {
-    pub policy: Approved,
-    pub state: State,
+    pub(crate) policy: Approved,
+    pub(crate) state: State,
     ghost stored: { Stored (policy .draft .tables) (state .cells) },
     ghost ranged: { Ranged (policy .draft .tables) (state .cells) },
 }
