@@ -1,4 +1,6 @@
 // Prints the roll of each input that an argument names, under that name.
+#![tactic(auto)]
+
 use report::roll::roll;
 use std::io::{BufWriter, Write};
 use std::{env, fs};

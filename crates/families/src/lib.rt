@@ -1,4 +1,6 @@
 // The rules that archives write: limits, separation of duty, precedence and dependency, each a module of its own.
+#![tactic(auto)]
+
 pub mod cardinality;
 pub mod dependency;
 pub mod house;

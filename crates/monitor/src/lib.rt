@@ -1,4 +1,6 @@
 // How an event is decided, for any pile of rules.
+#![tactic(auto)]
+
 pub mod answer;
 pub mod cells;
 pub mod decide;

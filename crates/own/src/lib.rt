@@ -1,4 +1,6 @@
 // An archive's own rule: the example to follow for one more.
+#![tactic(auto)]
+
 pub mod once;
 pub mod piles;
 #[cfg(test)]

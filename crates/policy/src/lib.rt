@@ -1,4 +1,6 @@
 // What a policy is, how it is read, and when it passes.
+#![tactic(auto)]
+
 pub mod approved;
 pub mod check;
 pub mod checked;

@@ -1,4 +1,6 @@
 // Prints the roll of the input on standard input.
+#![tactic(auto)]
+
 use report::roll::roll;
 use std::io::{Read, Write};
 

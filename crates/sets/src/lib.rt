@@ -1,4 +1,6 @@
 // Sets of roles and sets of users, each the bits of one number.
+#![tactic(auto)]
+
 pub mod roles;
 pub mod users;
 

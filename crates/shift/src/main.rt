@@ -1,5 +1,7 @@
 // A shift in the transfer rooms: two sessions opened by ticket, worked in, closed in the order that their roles allow, and one
 // left open for the night. Prints a row for each event.
+#![tactic(auto)]
+
 use families::house::{House, begin};
 use monitor::answer::Answer;
 use monitor::decide::Monitor;

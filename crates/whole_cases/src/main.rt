@@ -1,5 +1,7 @@
 // Prints the whole roll of each input that an argument names, under that name. Inputs named `own-` are decided by an own rule above
 // the house pile.
+#![tactic(auto)]
+
 use families::house::{House, house};
 use monitor::own::Own;
 use monitor::pair::Pair;

@@ -1,4 +1,6 @@
 // Prints the whole roll of the input on standard input.
+#![tactic(auto)]
+
 use report::whole::whole_roll;
 use std::io::{Read, Write};
 

@@ -14,9 +14,9 @@ pub loop-role-init : goal.loop-role-init
 unfolding first_of
 loop-role-init c = refl
 
-pub returns-then-not-is-within : goal.returns-then-not-is-within
+pub returns-then-not-is_within : goal.returns-then-not-is_within
 unfolding over
-returns-then-not-is-within c =
+returns-then-not-is_within c =
     let t = c.args.policy.now.draft.tables in
     let cells = c.args.cells.now in
     let role = c.loop-role.role in

@@ -21,14 +21,14 @@ pub returns-in-Some : goal.returns-in-Some
 returns-in-Some c =
     let t = c.args.policy.now.draft.tables in
     ap (option_map ConflictingUser) (c.in-Some.ensures.value
-    ∙ same c.conflicting-rivals.result c.users-with.result c.intersection.result.bits (users_pair t c.args.role c.args.owner)
+    ∙ same c.conflicting-rivals.result c.users_with.result c.intersection.result.bits (users_pair t c.args.role c.args.owner)
     (λ v. active_for c.args.state.now.cells v c.args.role) c.intersection.ensures.members
-    (λ k. ap (λ (s : UserSet). has s.bits k) c.conflicting-rivals.ensures) c.users-with.ensures)
+    (λ k. ap (λ (s : UserSet). has s.bits k) c.conflicting-rivals.ensures) c.users_with.ensures)
 
 pub returns-in-None : goal.returns-in-None
 returns-in-None c =
     let t = c.args.policy.now.draft.tables in
     ap (option_map ConflictingUser) (c.in-None.ensures.value
-    ∙ same c.conflicting-rivals.result c.users-with.result c.intersection.result.bits (users_pair t c.args.role c.args.owner)
+    ∙ same c.conflicting-rivals.result c.users_with.result c.intersection.result.bits (users_pair t c.args.role c.args.owner)
     (λ v. active_for c.args.state.now.cells v c.args.role) c.intersection.ensures.members
-    (λ k. ap (λ (s : UserSet). has s.bits k) c.conflicting-rivals.ensures) c.users-with.ensures)
+    (λ k. ap (λ (s : UserSet). has s.bits k) c.conflicting-rivals.ensures) c.users_with.ensures)

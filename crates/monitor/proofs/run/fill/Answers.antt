@@ -25,15 +25,15 @@ returns-then-done-rows g c =
     (omega (arith, eqb-false (length c.loop-rest.rest.now) 0 (sym c.loop-rest-test.ensures)))) in
     record { end = is.end; count = is.counted; bytes = is.bytes-taken; rows = is.written; state = is.reached; policy = c.loop-rest.invariant.1; pile = c.loop-rest.invariant.2 }
 
-pub returns-in-err-event : goal.returns-in-err-event
-returns-in-err-event g c =
+pub returns-in_err-event : goal.returns-in_err-event
+returns-in_err-event g c =
     let m = c.args.monitor.now in
     let f = c.loop-rest.invariant.0 in
     let p = err_from_is_err_and c.from-residual.result c.from-residual.ensures.1 in
-    let is = filled (g.P.Rule.rules m.pile) m.ledger c.args.rows.now c.args.bytes.now (Err c.in-err-event.field-0.0) f
-    (no_event f.left c.loop-rest.rest.now c.loop-rest.done.bytes c.in-err-event.field-0.0
+    let is = filled (g.P.Rule.rules m.pile) m.ledger c.args.rows.now c.args.bytes.now (Err c.in_err-event.field-0.0) f
+    (no_event f.left c.loop-rest.rest.now c.loop-rest.done.bytes c.in_err-event.field-0.0
     (omega (arith, f.room, long (g.P.Rule.rules m.pile) m.ledger c.args.rows.now c.args.bytes.now f, c.if-done-rows.false))
-    (omega (arith, eqb-false (length c.loop-rest.rest.now) 0 (sym c.loop-rest-test.ensures))) c.in-err-event.ensures.value) in
+    (omega (arith, eqb-false (length c.loop-rest.rest.now) 0 (sym c.loop-rest-test.ensures))) c.in_err-event.ensures.value) in
     rw (p.1, p.2) (record { end = is.end; count = is.counted; bytes = is.bytes-taken; rows = is.written; state = is.reached; policy = c.loop-rest.invariant.1; pile = c.loop-rest.invariant.2 })
 
 pub loop-rest-preserved : goal.loop-rest-preserved
@@ -41,12 +41,12 @@ loop-rest-preserved g c =
     let m = c.args.monitor.now in
     let f = c.loop-rest.invariant.0 in
     let now = c.loop-rest.monitor.ledger.state.cells in
-    let e = c.in-ok-event.event in
-    let took = c.in-ok-event.ensures in
+    let e = c.in_ok-event.event in
+    let took = c.in_ok-event.ensures in
     let said = c.decide.ensures in
     let same-policy = c.loop-rest.invariant.1 in
     let same-pile = c.loop-rest.invariant.2 in (
-      refilled (g.P.Rule.rules m.pile) m.ledger c.args.rows.now c.args.bytes.now f c.if-done-rows.false e c.in-ok-event.tail.now took.value took.shorter
+      refilled (g.P.Rule.rules m.pile) m.ledger c.args.rows.now c.args.bytes.now f c.if-done-rows.false e c.in_ok-event.tail.now took.value took.shorter
           c.decide.result c.decide.new.self.ledger.state.cells c.of.result
           (subst₂ (λ x p. c.decide.result ≡ reply (g.P.Rule.rules x) p.draft.tables now e) same-pile same-policy said.answer)
           (subst₂ (λ x p. c.decide.new.self.ledger.state.cells ≡ step (g.P.Rule.rules x) p.draft.tables now e) same-pile same-policy said.state)

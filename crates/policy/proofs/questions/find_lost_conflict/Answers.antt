@@ -22,7 +22,7 @@ loop-other-init c = refl
 pub loop-other-preserved : goal.loop-other-preserved
 loop-other-preserved c =
     none_more c.loop-other.other (lost_conflict_at c.args.seniority.now.rows c.args.draft.now.tables c.loop-senior.senior c.loop-junior.junior) c.loop-other.invariant
-    (cond-false _ (Some (LostConflict c.loop-senior.senior c.loop-junior.junior c.loop-other.other)) None (sym c.if-is-lost-conflict.ensures))
+    (cond-false _ (Some (LostConflict c.loop-senior.senior c.loop-junior.junior c.loop-other.other)) None (sym c.if-is_lost_conflict.ensures))
 
 pub loop-junior-preserved : goal.loop-junior-preserved
 loop-junior-preserved c =
@@ -39,8 +39,8 @@ loop-senior-preserved c =
     none_more i (λ a. first_of n (λ b. first_of n (at a b))) c.loop-senior.invariant
     (none_end n (λ b. first_of n (at i b)) c.loop-junior.junior c.loop-junior-test.false c.loop-junior.invariant)
 
-pub returns-then-is-lost-conflict : goal.returns-then-is-lost-conflict
-returns-then-is-lost-conflict c =
+pub returns-then-is_lost_conflict : goal.returns-then-is_lost_conflict
+returns-then-is_lost_conflict c =
     let n = c.args.draft.now.tables.sizes.roles in
     let at : ℕ → ℕ → ℕ → Option Verdict = lost_conflict_at c.args.seniority.now.rows c.args.draft.now.tables in
     let a = c.loop-senior.senior in
@@ -48,4 +48,4 @@ returns-then-is-lost-conflict c =
     let x = LostConflict a b c.loop-other.other in
     sym (found_here n (λ i. first_of n (λ j. first_of n (at i j))) a x c.loop-senior-test.true c.loop-senior.invariant
     (found_here n (λ j. first_of n (at a j)) b x c.loop-junior-test.true c.loop-junior.invariant
-    (found_here n (at a b) c.loop-other.other x c.loop-other-test.true c.loop-other.invariant (cond-true _ (Some x) None (sym c.if-is-lost-conflict.ensures)))))
+    (found_here n (at a b) c.loop-other.other x c.loop-other-test.true c.loop-other.invariant (cond-true _ (Some x) None (sym c.if-is_lost_conflict.ensures)))))

@@ -10,10 +10,10 @@ pub loop-role-init : goal.loop-role-init
 unfolding first_of
 loop-role-init c = refl
 
-pub returns-then-is-self-conflict : goal.returns-then-is-self-conflict
-returns-then-is-self-conflict c =
+pub returns-then-is_self_conflict : goal.returns-then-is_self_conflict
+returns-then-is_self_conflict c =
     sym (found_here c.args.draft.now.tables.sizes.roles (self_conflict_at c.args.draft.now.tables) c.loop-role.role (SelfConflict c.loop-role.role)
-    c.loop-role-test.true c.loop-role.invariant (cond-true _ (Some (SelfConflict c.loop-role.role)) None (sym c.if-is-self-conflict.ensures)))
+    c.loop-role-test.true c.loop-role.invariant (cond-true _ (Some (SelfConflict c.loop-role.role)) None (sym c.if-is_self_conflict.ensures)))
 
 pub loop-role-preserved : goal.loop-role-preserved
-loop-role-preserved c = none_more c.loop-role.role (self_conflict_at c.args.draft.now.tables) c.loop-role.invariant (cond-false _ (Some (SelfConflict c.loop-role.role)) None (sym c.if-is-self-conflict.ensures))
+loop-role-preserved c = none_more c.loop-role.role (self_conflict_at c.args.draft.now.tables) c.loop-role.invariant (cond-false _ (Some (SelfConflict c.loop-role.role)) None (sym c.if-is_self_conflict.ensures))

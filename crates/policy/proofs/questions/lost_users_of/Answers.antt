@@ -12,7 +12,7 @@ loop-first-init c = refl
 pub returns-in-Some : goal.returns-in-Some
 returns-in-Some c =
     sym (cond-true _ (first_of c.args.draft.now.tables.sizes.users (λ u. first_of 64 (lost_user_at c.args.draft.now.tables c.args.senior c.args.junior u))) None
-    (sym c.if-not-is-senior.ensures)
+    (sym c.if-not-is_senior.ensures)
     ∙ found_here c.args.draft.now.tables.sizes.users (λ u. first_of 64 (lost_user_at c.args.draft.now.tables c.args.senior c.args.junior u)) c.loop-first.first c.in-Some.found
     c.loop-first-test.true c.loop-first.invariant (sym c.in-Some.ensures))
 

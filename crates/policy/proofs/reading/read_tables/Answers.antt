@@ -18,40 +18,40 @@ loop-entry-init c =
 pub loop-entry-preserved : goal.loop-entry-preserved
 loop-entry-preserved c =
     let v = c.loop-entry.invariant.2 in
-    let t = c.in-ok-entry.ensures in
-    let a = c.in-ok-apply.ensures in
+    let t = c.in_ok-entry.ensures in
+    let a = c.in_ok-apply.ensures in
     let left = opened v.0 c.loop-entry.tables c.loop-entry.rest.now c.loop-entry.at (reading c.args.bytes.now) v.1 v.2 in (
-      applied_well_formed c.loop-entry.tables c.apply.new.tables c.in-ok-entry.entry c.loop-entry.at c.loop-entry.invariant.0 a,
+      applied_well_formed c.loop-entry.tables c.apply.new.tables c.in_ok-entry.entry c.loop-entry.at c.loop-entry.invariant.0 a,
       omega (arith, t.shorter, c.loop-entry.invariant.1),
-      turned _ _ _ _ c.in-ok-entry.entry c.in-ok-entry.tail.now left t.value c.apply.new.tables a c.if-is-end.ensures t.shorter,
+      turned _ _ _ _ c.in_ok-entry.entry c.in_ok-entry.tail.now left t.value c.apply.new.tables a c.if-is_end.ensures t.shorter,
     )
 
-pub returns-then-is-end : goal.returns-then-is-end
-returns-then-is-end c =
+pub returns-then-is_end : goal.returns-then-is_end
+returns-then-is_end c =
     let v = c.loop-entry.invariant.2 in
-    let a = c.in-ok-apply.ensures in
+    let a = c.in_ok-apply.ensures in
     let left = opened v.0 c.loop-entry.tables c.loop-entry.rest.now c.loop-entry.at (reading c.args.bytes.now) v.1 v.2 in
     record {
-      answer = ended _ _ _ _ c.in-ok-entry.entry c.in-ok-entry.tail.now left c.in-ok-entry.ensures.value c.apply.new.tables a c.if-is-end.ensures;
-      tables = applied_well_formed c.loop-entry.tables c.apply.new.tables c.in-ok-entry.entry c.loop-entry.at c.loop-entry.invariant.0 a;
-      within = omega (arith, c.in-ok-entry.ensures.shorter, c.loop-entry.invariant.1);
+      answer = ended _ _ _ _ c.in_ok-entry.entry c.in_ok-entry.tail.now left c.in_ok-entry.ensures.value c.apply.new.tables a c.if-is_end.ensures;
+      tables = applied_well_formed c.loop-entry.tables c.apply.new.tables c.in_ok-entry.entry c.loop-entry.at c.loop-entry.invariant.0 a;
+      within = omega (arith, c.in_ok-entry.ensures.shorter, c.loop-entry.invariant.1);
     }
 
-pub returns-in-err-entry : goal.returns-in-err-entry
-returns-in-err-entry c =
+pub returns-in_err-entry : goal.returns-in_err-entry
+returns-in_err-entry c =
     let v = c.loop-entry.invariant.2 in
     let left = opened v.0 c.loop-entry.tables c.loop-entry.rest.now c.loop-entry.at (reading c.args.bytes.now) v.1 v.2 in
     let p = err_from_is_err_and c.from-residual.result c.from-residual.ensures.1 in
-    rw (p.1, p.2) (record { answer = faulty _ _ _ _ c.in-err-entry.field-0.0 left c.in-err-entry.ensures.value; tables = tt; within = tt })
+    rw (p.1, p.2) (record { answer = faulty _ _ _ _ c.in_err-entry.field-0.0 left c.in_err-entry.ensures.value; tables = tt; within = tt })
 
-pub returns-in-err-apply : goal.returns-in-err-apply
-returns-in-err-apply c =
+pub returns-in_err-apply : goal.returns-in_err-apply
+returns-in_err-apply c =
     let v = c.loop-entry.invariant.2 in
     let left = opened v.0 c.loop-entry.tables c.loop-entry.rest.now c.loop-entry.at (reading c.args.bytes.now) v.1 v.2 in
-    let p = err_from_is_err_and c.from-residual-in-err-apply.result c.from-residual-in-err-apply.ensures.1 in
+    let p = err_from_is_err_and c.from-residual-in_err-apply.result c.from-residual-in_err-apply.ensures.1 in
     rw (p.1, p.2) (record {
-      answer = refused _ _ _ _ c.in-ok-entry.entry c.in-ok-entry.tail.now left c.in-ok-entry.ensures.value
-          c.in-err-apply.field-0.0 c.in-err-apply.ensures;
+      answer = refused _ _ _ _ c.in_ok-entry.entry c.in_ok-entry.tail.now left c.in_ok-entry.ensures.value
+          c.in_err-apply.field-0.0 c.in_err-apply.ensures;
       tables = tt;
       within = tt;
     })

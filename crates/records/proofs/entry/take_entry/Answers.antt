@@ -5,9 +5,9 @@ use Rattle.records.proofs.entry.take_entry.Goals as goal
 
 pub returns-in-Some : goal.returns-in-Some
 returns-in-Some c =
-    let t = c.in-ok-kind.ensures in
+    let t = c.in_ok-kind.ensures in
     record {
-      value = decoded Policy entry_of c.args.bytes.now c.args.at c.in-ok-kind.kind c.in-ok-kind.body.now
-          c.in-ok-kind.rest.now c.in-Some.entry t.value c.in-Some.ensures;
+      value = decoded Policy entry_of c.args.bytes.now c.args.at c.in_ok-kind.kind c.in_ok-kind.body.now
+          c.in_ok-kind.rest.now c.in-Some.entry t.value c.in-Some.ensures;
       shorter = t.shorter;
     }

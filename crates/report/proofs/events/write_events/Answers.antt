@@ -23,7 +23,7 @@ loop-total-preserved g c =
       rolled_run ms t m.ledger.state.cells c.args.bytes.now _ (length c.loop-total.rows) c.loop-total.invariant.0 c.loop-total-test.true
           c.run-outcome.result is.answer (drop (length es) c.loop-total.rows) c.run-outcome.new.rows
           (subst₂ (λ x p. c.run-outcome.new.rows ≡ rows_of es (replies (g.P.Rule.rules x) p.draft.tables before es) ++ drop (length es) c.loop-total.rows) same-pile same-policy is.rows)
-          _ c.in-ok-write-rows.ensures
+          _ c.in_ok-write_rows.ensures
           c.run-outcome.new.monitor.ledger.state.cells
           (subst₂ (λ x p. c.run-outcome.new.monitor.ledger.state.cells ≡ after (g.P.Rule.rules x) p.draft.tables before es) same-pile same-policy is.state)
           c.number.result c.number.ensures,
@@ -36,4 +36,4 @@ pub returns : goal.returns
 returns g c =
     let m = c.args.monitor.now in
     unrolled_whole (g.P.Rule.rules m.pile) m.ledger.policy.draft.tables m.ledger.state.cells c.args.bytes.now _ c.loop-total.invariant.0
-    c.loop-total-test.false _ (c.in-ok-write-2.ensures.bytes ∙ ap (λ text. text ++ codes "\n") c.in-ok-write.ensures.bytes)
+    c.loop-total-test.false _ (c.in_ok-write-2.ensures.bytes ∙ ap (λ text. text ++ codes "\n") c.in_ok-write.ensures.bytes)

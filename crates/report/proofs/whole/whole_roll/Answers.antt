@@ -7,7 +7,7 @@ use Rattle.report.proofs.whole.whole_roll.Goals as goal
 
 pub returns : goal.returns
 returns c = record {
-  text = c.whole-roll-by.ensures.text;
-  law = IfOk-weaker c.whole-roll-by.result (λ t. Rests house_rules c.args.bytes.now (string_bytes t)) (λ t. HouseRests c.args.bytes.now (string_bytes t))
-      (λ t rest. house_rests c.args.bytes.now (string_bytes t) rest) c.whole-roll-by.ensures.law;
+  text = c.whole_roll_by.ensures.text;
+  law = IfOk-weaker c.whole_roll_by.result (λ t. Rests house_rules c.args.bytes.now (string_bytes t)) (λ t. HouseRests c.args.bytes.now (string_bytes t))
+      (λ t rest. house_rests c.args.bytes.now (string_bytes t) rest) c.whole_roll_by.ensures.law;
 }

@@ -5,6 +5,6 @@ use Rattle.monitor.proofs.ledger.Ledger.begin.Goals as goal
 
 pub invariant-of-result : goal.invariant-of-result
 invariant-of-result c =
-    let t = c.into-policy.result.draft.tables in
+    let t = c.into_policy.result.draft.tables in
     let fits = subst (Fits t) (sym c.new.ensures) (blank-fits t) in
     (fits.stored, (fits.ranged, tt))

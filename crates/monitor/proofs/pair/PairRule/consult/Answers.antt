@@ -12,7 +12,7 @@ returns-in-Err g c =
 pub returns-in-Err-consult : goal.returns-in-Err-consult
 returns-in-Err-consult g c =
     let a = c.args in
-    ap {B = Ruling} (λ (r : Reason). Err r) c.further-down.ensures
+    ap {B = Ruling} (λ (r : Reason). Err r) c.further_down.ensures
     ∙ ruling_lower a.policy.now.draft.tables a.state.now.cells a.event (g.U.Rule.rules a.self.now.upper) (g.L.Rule.rules a.self.now.lower) _ (Err c.in-Err-consult.reason)
     c.in-Ok.ensures c.places.ensures c.in-Err-consult.ensures
 

@@ -15,4 +15,4 @@ returns c =
       | then-session-lt64 w ↦ w.sessions-is
       | else-session-lt64 w ↦ w.sessions-is ∙ sym (set_past xs c.args.session c.args.changed (omega (arith, c.args.self.now.wide, w.if-session-lt64.false)))
     ] in
-    c.active-among.ensures ∙ ap {B = RoleSet} (λ (ys : List Session). record { bits = active_in Anyone ys }) is
+    c.active_among.ensures ∙ ap {B = RoleSet} (λ (ys : List Session). record { bits = active_in Anyone ys }) is

@@ -6,5 +6,5 @@ use Rattle.monitor.proofs.state.State.new.Goals as goal
 
 pub invariant-of-result : goal.invariant-of-result
 invariant-of-result c =
-    let sound = subst Sound (sym c.blank-cells.ensures) (blank-fits bare).sound in
+    let sound = subst Sound (sym c.blank_cells.ensures) (blank-fits bare).sound in
     (sound.wide, (sound.owned, (sound.live, (sound.entitled, tt))))

@@ -10,7 +10,7 @@ returns c =
     let a = c.args.self.bits in
     let b = c.args.other.bits in
     let d = difference 64 a b in
-    let is = c.is-empty.ensures.value ∙ ap (λ (s : UserSet). eqb s.bits 0) c.difference.ensures.value in
+    let is = c.is_empty.ensures.value ∙ ap (λ (s : UserSet). eqb s.bits 0) c.difference.ensures.value in
     record {
       value = is;
       is = λ e. subset_members 64 a b (omega arith) (omega arith) (eqb-true d 0 (sym is ∙ e));
