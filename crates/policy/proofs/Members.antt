@@ -1,6 +1,6 @@
 -- The laws of rows of sets: what one more member, or one more pair, changes in them. Assumes nothing.
 use Rattle.std.proofs.Common.{◌≡◌, ℕ, ◌^◌, ◌<◌, Bool, true, false, ◌&&◌, ◌||◌, eqb, ltb, List, length, get_or, set, replicate, sym, refl, ap, ◌∙◌, subst, inl, inr, arith}
-use mathlib.Core.Bool.{or_false, and_comm, or_comm, or_assoc}
+use mathlib.Core.Bool.{or-false, and_comm, or_comm, or_assoc}
 use Rattle.std.proofs.lemmas.List.{length-set, length-replicate, get_or-set_same, get_or-set_other, get_or-replicate, get_or_past, set_past}
 use Rattle.std.proofs.lemmas.Bool.{eqb-true, eq-eqb, ne_eqb, cases_eq, cases_lt, and_parts, and_left, or_cases, or_from}
 use Rattle.sets.specs.declared.roles.RoleSet.{RoleSet}
@@ -108,7 +108,7 @@ module _ {X : Type 0} (k : Kind X) where
             ∙ ap (λ m. has m y) (k.made (with_member k.width n b) ∙ with-within k.width n b hb)
             ∙ has-union n (2 ^ b) y
             ∙ ap (λ t. has n y || t) (has_bit b y ∙ ap (λ t. t && eqb y b) (sym (eq-eqb a a refl))))
-        | inr ne ↦ ap (λ s. has (k.bits s) y) (get_or-set_other rows a x new (k.make 0) ne) ∙ sym (or_false (member k rows x y))
+        | inr ne ↦ ap (λ s. has (k.bits s) y) (get_or-set_other rows a x new (k.make 0) ne) ∙ sym (or-false (member k rows x y))
             ∙ ap (λ t. member k rows x y || (t && eqb y b)) (sym (ne_eqb x a ne))
       ]
 

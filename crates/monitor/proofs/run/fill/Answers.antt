@@ -29,7 +29,7 @@ pub returns-in_err-event : goal.returns-in_err-event
 returns-in_err-event g c =
     let m = c.args.monitor.now in
     let f = c.loop-rest.invariant.0 in
-    let p = err_from_is_err_and c.from-residual.result c.from-residual.ensures.1 in
+    let p = err_from_is_err_and c.from_residual.result c.from_residual.ensures.1 in
     let is = filled (g.P.Rule.rules m.pile) m.ledger c.args.rows.now c.args.bytes.now (Err c.in_err-event.field-0.0) f
     (no_event f.left c.loop-rest.rest.now c.loop-rest.done.bytes c.in_err-event.field-0.0
     (omega (arith, f.room, long (g.P.Rule.rules m.pile) m.ledger c.args.rows.now c.args.bytes.now f, c.if-done-rows.false))

@@ -14,4 +14,4 @@ returns-in-Some c =
     c.loop-first-test.true c.loop-first.invariant (sym c.in-Some.ensures))
 
 pub loop-first-preserved : goal.loop-first-preserved
-loop-first-preserved c = none_more c.loop-first.first (λ a. first_of 32 (both_conflicts_at c.args.draft.now.tables a)) c.loop-first.invariant (sym c.in-default.ensures)
+loop-first-preserved c = none_more c.loop-first.first (λ a. first_of 32 (both_conflicts_at c.args.draft.now.tables a)) c.loop-first.invariant (sym c.in_default.ensures)

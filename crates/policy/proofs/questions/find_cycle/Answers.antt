@@ -14,4 +14,4 @@ returns-in-Some c =
     c.loop-first-test.true c.loop-first.invariant (sym c.in-Some.ensures))
 
 pub loop-first-preserved : goal.loop-first-preserved
-loop-first-preserved c = none_more c.loop-first.first (λ a. first_of c.args.draft.now.tables.sizes.roles (cycle_at c.args.seniority.now.rows a)) c.loop-first.invariant (sym c.in-default.ensures)
+loop-first-preserved c = none_more c.loop-first.first (λ a. first_of c.args.draft.now.tables.sizes.roles (cycle_at c.args.seniority.now.rows a)) c.loop-first.invariant (sym c.in_default.ensures)

@@ -14,4 +14,4 @@ returns-in-Some c =
     c.loop-senior-test.true c.loop-senior.invariant (sym c.in-Some.ensures))
 
 pub loop-senior-preserved : goal.loop-senior-preserved
-loop-senior-preserved c = none_more c.loop-senior.senior (λ a. first_of c.args.draft.now.tables.sizes.roles (lost_users_at c.args.seniority.now.rows c.args.draft.now.tables a)) c.loop-senior.invariant (sym c.in-default.ensures)
+loop-senior-preserved c = none_more c.loop-senior.senior (λ a. first_of c.args.draft.now.tables.sizes.roles (lost_users_at c.args.seniority.now.rows c.args.draft.now.tables a)) c.loop-senior.invariant (sym c.in_default.ensures)

@@ -14,4 +14,4 @@ returns-in-Some c =
     c.loop-junior-test.true c.loop-junior.invariant (sym c.in-Some.ensures))
 
 pub loop-junior-preserved : goal.loop-junior-preserved
-loop-junior-preserved c = none_more c.loop-junior.junior (lost_users_at c.args.seniority.now.rows c.args.draft.now.tables c.args.senior) c.loop-junior.invariant (sym c.in-default.ensures)
+loop-junior-preserved c = none_more c.loop-junior.junior (lost_users_at c.args.seniority.now.rows c.args.draft.now.tables c.args.senior) c.loop-junior.invariant (sym c.in_default.ensures)

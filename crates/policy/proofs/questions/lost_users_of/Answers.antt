@@ -17,4 +17,4 @@ returns-in-Some c =
     c.loop-first-test.true c.loop-first.invariant (sym c.in-Some.ensures))
 
 pub loop-first-preserved : goal.loop-first-preserved
-loop-first-preserved c = none_more c.loop-first.first (λ u. first_of 64 (lost_user_at c.args.draft.now.tables c.args.senior c.args.junior u)) c.loop-first.invariant (sym c.in-default.ensures)
+loop-first-preserved c = none_more c.loop-first.first (λ u. first_of 64 (lost_user_at c.args.draft.now.tables c.args.senior c.args.junior u)) c.loop-first.invariant (sym c.in_default.ensures)

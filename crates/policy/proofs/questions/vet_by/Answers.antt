@@ -15,33 +15,33 @@ pub returns-in-Some-find_self_conflict : goal.returns-in-Some-find_self_conflict
 returns-in-Some-find_self_conflict c =
     let d = c.args.draft.now in
     let r = told_right d.tables _ c.in-Some-find_self_conflict.found (well_formed d) c.requires
-    (settle_none _ _ _ c.in-default.ensures (settle_some _ _ _ c.in-Some-find_self_conflict.ensures)) in
+    (settle_none _ _ _ c.in_default.ensures (settle_some _ _ _ c.in-Some-find_self_conflict.ensures)) in
     record { answer = r.answer; law = r.law }
 
 pub returns-in-Some-find_lost_conflict : goal.returns-in-Some-find_lost_conflict
 returns-in-Some-find_lost_conflict c =
     let d = c.args.draft.now in
     let r = told_right d.tables _ c.in-Some-find_lost_conflict.found (well_formed d) c.requires
-    (settle_none _ _ _ c.in-default.ensures (settle_none _ _ _ c.in-default-find_self_conflict.ensures (settle_some _ _ _ c.in-Some-find_lost_conflict.ensures))) in
+    (settle_none _ _ _ c.in_default.ensures (settle_none _ _ _ c.in_default-find_self_conflict.ensures (settle_some _ _ _ c.in-Some-find_lost_conflict.ensures))) in
     record { answer = r.answer; law = r.law }
 
 pub returns-in-Some-find_both_conflicts : goal.returns-in-Some-find_both_conflicts
 returns-in-Some-find_both_conflicts c =
     let d = c.args.draft.now in
     let r = told_right d.tables _ c.in-Some-find_both_conflicts.found (well_formed d) c.requires
-    (settle_none _ _ _ c.in-default.ensures (settle_none _ _ _ c.in-default-find_self_conflict.ensures (settle_none _ _ _ c.in-default-find_lost_conflict.ensures (settle_some _ _ _ c.in-Some-find_both_conflicts.ensures)))) in
+    (settle_none _ _ _ c.in_default.ensures (settle_none _ _ _ c.in_default-find_self_conflict.ensures (settle_none _ _ _ c.in_default-find_lost_conflict.ensures (settle_some _ _ _ c.in-Some-find_both_conflicts.ensures)))) in
     record { answer = r.answer; law = r.law }
 
 pub returns-in-Some-find_lost_users : goal.returns-in-Some-find_lost_users
 returns-in-Some-find_lost_users c =
     let d = c.args.draft.now in
     let r = told_right d.tables _ c.in-Some-find_lost_users.found (well_formed d) c.requires
-    (settle_none _ _ _ c.in-default.ensures (settle_none _ _ _ c.in-default-find_self_conflict.ensures (settle_none _ _ _ c.in-default-find_lost_conflict.ensures (settle_none _ _ _ c.in-default-find_both_conflicts.ensures (settle_some _ _ _ c.in-Some-find_lost_users.ensures))))) in
+    (settle_none _ _ _ c.in_default.ensures (settle_none _ _ _ c.in_default-find_self_conflict.ensures (settle_none _ _ _ c.in_default-find_lost_conflict.ensures (settle_none _ _ _ c.in_default-find_both_conflicts.ensures (settle_some _ _ _ c.in-Some-find_lost_users.ensures))))) in
     record { answer = r.answer; law = r.law }
 
 pub returns : goal.returns
 returns c =
     let d = c.args.draft.now in
     let r = told_right d.tables _ Passed (well_formed d) c.requires
-    (settle_none _ _ _ c.in-default.ensures (settle_none _ _ _ c.in-default-find_self_conflict.ensures (settle_none _ _ _ c.in-default-find_lost_conflict.ensures (settle_none _ _ _ c.in-default-find_both_conflicts.ensures (settle_none _ _ _ c.in-default-find_lost_users.ensures (refl)))))) in
+    (settle_none _ _ _ c.in_default.ensures (settle_none _ _ _ c.in_default-find_self_conflict.ensures (settle_none _ _ _ c.in_default-find_lost_conflict.ensures (settle_none _ _ _ c.in_default-find_both_conflicts.ensures (settle_none _ _ _ c.in_default-find_lost_users.ensures (refl)))))) in
     record { answer = r.answer; law = r.law }

@@ -41,14 +41,14 @@ pub returns-in_err-entry : goal.returns-in_err-entry
 returns-in_err-entry c =
     let v = c.loop-entry.invariant.2 in
     let left = opened v.0 c.loop-entry.tables c.loop-entry.rest.now c.loop-entry.at (reading c.args.bytes.now) v.1 v.2 in
-    let p = err_from_is_err_and c.from-residual.result c.from-residual.ensures.1 in
+    let p = err_from_is_err_and c.from_residual.result c.from_residual.ensures.1 in
     rw (p.1, p.2) (record { answer = faulty _ _ _ _ c.in_err-entry.field-0.0 left c.in_err-entry.ensures.value; tables = tt; within = tt })
 
 pub returns-in_err-apply : goal.returns-in_err-apply
 returns-in_err-apply c =
     let v = c.loop-entry.invariant.2 in
     let left = opened v.0 c.loop-entry.tables c.loop-entry.rest.now c.loop-entry.at (reading c.args.bytes.now) v.1 v.2 in
-    let p = err_from_is_err_and c.from-residual-in_err-apply.result c.from-residual-in_err-apply.ensures.1 in
+    let p = err_from_is_err_and c.from_residual-in_err-apply.result c.from_residual-in_err-apply.ensures.1 in
     rw (p.1, p.2) (record {
       answer = refused _ _ _ _ c.in_ok-entry.entry c.in_ok-entry.tail.now left c.in_ok-entry.ensures.value
           c.in_err-apply.field-0.0 c.in_err-apply.ensures;

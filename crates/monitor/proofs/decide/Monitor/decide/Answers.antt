@@ -17,7 +17,7 @@ returns-in-Err g c =
     let m = c.args.self.now in
     let ms = g.P.Rule.rules m.pile in
     let old = m.ledger.state.cells in
-    let is = possible_way ms m.ledger.policy.draft.tables old c.args.event (Err c.in-Err.reason) c.in-default.ensures c.in-Err.ensures in
+    let is = possible_way ms m.ledger.policy.draft.tables old c.args.event (Err c.in-Err.reason) c.in_default.ensures c.in-Err.ensures in
     let law = decides ms (g.met.P.Rule.lawful m.pile) m.ledger.policy old _ c.args.event _ is.0 is.1 in
     record { answer = is.0; state = is.1; policy = refl; pile = refl; law = law }
 
@@ -26,7 +26,7 @@ returns-in-Ok g c =
     let m = c.args.self.now in
     let ms = g.P.Rule.rules m.pile in
     let old = m.ledger.state.cells in
-    let is = possible_way ms m.ledger.policy.draft.tables old c.args.event (Ok tt) c.in-default.ensures c.in-Ok.ensures in
+    let is = possible_way ms m.ledger.policy.draft.tables old c.args.event (Ok tt) c.in_default.ensures c.in-Ok.ensures in
     let answer = ap Granted c.ending.ensures ∙ is.0 in
     let state = c.advance.ensures.state ∙ is.1 in
     record {

@@ -4,16 +4,16 @@ use Rattle.monitor.proofs.Ledgers.{ledger_formed, ledger_fits}
 use Rattle.monitor.proofs.Steps.{next_fits}
 use Rattle.monitor.proofs.ledger.Ledger.advance.Goals as goal
 
-pub invariant-of-self : goal.invariant-of-self
-invariant-of-self c =
+pub invariant_of-self : goal.invariant_of-self
+invariant_of-self c =
     let l = c.args.self.now in
     let t = l.policy.draft.tables in
     let fits = subst (Fits t) (sym c.moved-cells.ensures) (next_fits t (ledger_formed l) l.state.cells (ledger_fits l) c.args.event c.requires) in
-    (fits.sound.wide, (fits.sound.owned, (fits.sound.live, (fits.sound.entitled, tt))))
+    record { wide = fits.sound.wide; owned = fits.sound.owned; live = fits.sound.live; entitled = fits.sound.entitled }
 
-pub invariant-of-self-2 : goal.invariant-of-self-2
-invariant-of-self-2 c =
+pub invariant_of-self-2 : goal.invariant_of-self-2
+invariant_of-self-2 c =
     let l = c.args.self.now in
     let t = l.policy.draft.tables in
     let fits = subst (Fits t) (sym c.moved-cells.ensures) (next_fits t (ledger_formed l) l.state.cells (ledger_fits l) c.args.event c.requires) in
-    (fits.stored, (fits.ranged, tt))
+    record { stored = fits.stored; ranged = fits.ranged }

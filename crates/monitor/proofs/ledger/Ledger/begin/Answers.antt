@@ -3,8 +3,8 @@ use Rattle.monitor.specs.Authority.{Fits}
 use Rattle.monitor.proofs.Begun.{blank-fits}
 use Rattle.monitor.proofs.ledger.Ledger.begin.Goals as goal
 
-pub invariant-of-result : goal.invariant-of-result
-invariant-of-result c =
+pub invariant_of-result : goal.invariant_of-result
+invariant_of-result c =
     let t = c.into_policy.result.draft.tables in
     let fits = subst (Fits t) (sym c.new.ensures) (blank-fits t) in
-    (fits.stored, (fits.ranged, tt))
+    record { stored = fits.stored; ranged = fits.ranged }

@@ -4,7 +4,7 @@ use Rattle.monitor.specs.Cells.{Sound}
 use Rattle.monitor.proofs.Begun.{blank-fits}
 use Rattle.monitor.proofs.state.State.new.Goals as goal
 
-pub invariant-of-result : goal.invariant-of-result
-invariant-of-result c =
+pub invariant_of-result : goal.invariant_of-result
+invariant_of-result c =
     let sound = subst Sound (sym c.blank_cells.ensures) (blank-fits bare).sound in
-    (sound.wide, (sound.owned, (sound.live, (sound.entitled, tt))))
+    record { wide = sound.wide; owned = sound.owned; live = sound.live; entitled = sound.entitled }

@@ -5,8 +5,8 @@ use Rattle.policy.specs.Questions.{Passes}
 use Rattle.policy.proofs.Bare.{bare-passes}
 use Rattle.policy.proofs.checked.Checked.bare.Goals as goal
 
-pub invariant-of-result : goal.invariant-of-result
-invariant-of-result c = (
-  (λ a. ap (λ (rows : List RoleSet). (get_or rows a no_roles).bits) c.of-seniority.ensures.value),
-  (subst Passes (sym c.bare-draft.ensures) bare-passes, tt),
-)
+pub invariant_of-result : goal.invariant_of-result
+invariant_of-result c = record {
+  closed = λ a. ap (λ (rows : List RoleSet). (get_or rows a no_roles).bits) c.of-seniority.ensures.value;
+  passes = subst Passes (sym c.bare-draft.ensures) bare-passes;
+}

@@ -11,8 +11,8 @@ loop-role-init c = c.alone-rows.ensures
 
 pub loop-role-preserved : goal.loop-role-preserved
 loop-role-preserved c =
-    close_more c.args.draft.now.tables.hierarchy.juniors c.loop-role.rows c.spread_rows.result c.loop-role.role c.gather-below.result.bits
-    c.loop-role.invariant (ap (λ (s : RoleSet). s.bits) c.gather-below.ensures) c.spread_rows.ensures
+    close_more c.args.draft.now.tables.hierarchy.juniors c.loop-role.rows c.spread-rows.result c.loop-role.role c.gather-below.result.bits
+    c.loop-role.invariant (ap (λ (s : RoleSet). s.bits) c.gather-below.ensures) c.spread-rows.ensures
 
 pub returns : goal.returns
 returns c =
