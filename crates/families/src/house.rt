@@ -74,8 +74,8 @@ pub fn decide(monitor: &mut Monitor<House>, event: Event) -> Answer
 // How many rules a pile has. Where one of them allows only states in which nobody is authorised for two roles in static
 // conflict, as separation does, so does the pile.
 pub fn static_conflict_reaches_the_pile<P: Rule>(pile: &P) -> u8
-    ensures value { result ≡ min 255 (length (rules pile.now)) }
-    ensures law { (k : ℕ) → k < length (rules pile.now) → SeparatesAt (rules pile.now) k → KeepsApart (rules pile.now) }
+    ensures value { result ≡ min 255 (length (P.rules pile.now)) }
+    ensures law { (k : ℕ) → k < length (P.rules pile.now) → SeparatesAt (P.rules pile.now) k → KeepsApart (P.rules pile.now) }
     ensures separation { SeparatesAt (separation ∷ []) 0 }
 {
     pile.places()

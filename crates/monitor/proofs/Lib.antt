@@ -7,3 +7,4 @@ pub mod Counting
 pub mod Lives
 pub mod Filling
 pub mod Joining
+pub mod Piles

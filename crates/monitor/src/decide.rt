@@ -24,7 +24,7 @@ impl<P: Rule> Monitor<P> {
         ensures policy { result.ledger.policy ≡ checked.policy }
         ensures state { result.ledger.state.cells ≡ blank }
         ensures pile { result.pile ≡ pile }
-        ensures law { Lived (rules pile) checked.policy.draft.tables [] [] result.ledger.state.cells }
+        ensures law { Lived (P.rules pile) checked.policy.draft.tables [] [] result.ledger.state.cells }
     {
         Monitor {
             ledger: Ledger::begin(checked),
@@ -34,11 +34,11 @@ impl<P: Rule> Monitor<P> {
 
     // Decides an event: where it is possible and every rule admits it, it is done.
     pub fn decide(&mut self, event: Event) -> Answer
-        ensures answer { result ≡ answer_to (rules self.old.pile) self.old.ledger event }
-        ensures state { self.new.ledger.state.cells ≡ state_after (rules self.old.pile) self.old.ledger event }
+        ensures answer { result ≡ answer_to (P.rules self.old.pile) self.old.ledger event }
+        ensures state { self.new.ledger.state.cells ≡ state_after (P.rules self.old.pile) self.old.ledger event }
         ensures policy { self.new.ledger.policy ≡ self.old.ledger.policy }
         ensures pile { self.new.pile ≡ self.old.pile }
-        ensures law { Adds (rules self.old.pile) self.old.ledger (event ∷ []) (result ∷ []) self.new.ledger.state.cells }
+        ensures law { Adds (P.rules self.old.pile) self.old.ledger (event ∷ []) (result ∷ []) self.new.ledger.state.cells }
     {
         let policy = self.ledger.policy;
         let state = self.ledger.state;

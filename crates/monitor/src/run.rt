@@ -57,8 +57,8 @@ fn fill<P: Rule>(
     ensures end { result ≡ (script_of bytes.now rows.old).end }
     ensures count { done.new.rows ≡ length (script_of bytes.now rows.old).events }
     ensures bytes { done.new.bytes ≡ (script_of bytes.now rows.old).bytes }
-    ensures rows { rows.new ≡ rows_after (rules monitor.old.pile) monitor.old.ledger bytes.now rows.old }
-    ensures state { monitor.new.ledger.state.cells ≡ state_run (rules monitor.old.pile) monitor.old.ledger bytes.now rows.old }
+    ensures rows { rows.new ≡ rows_after (P.rules monitor.old.pile) monitor.old.ledger bytes.now rows.old }
+    ensures state { monitor.new.ledger.state.cells ≡ state_run (P.rules monitor.old.pile) monitor.old.ledger bytes.now rows.old }
     ensures policy { monitor.new.ledger.policy ≡ monitor.old.ledger.policy }
     ensures pile { monitor.new.pile ≡ monitor.old.pile }
 {
@@ -80,13 +80,13 @@ fn fill<P: Rule>(
 // at the first record that is no event or is cut, asked in this order; later rows stay as they were.
 pub fn run<P: Rule>(monitor: &mut Monitor<P>, bytes: &[u8], rows: &mut [Row]) -> Outcome
     ensures answer { result ≡ outcome (script_of bytes.now rows.old) }
-    ensures rows { rows.new ≡ rows_after (rules monitor.old.pile) monitor.old.ledger bytes.now rows.old }
-    ensures state { monitor.new.ledger.state.cells ≡ state_run (rules monitor.old.pile) monitor.old.ledger bytes.now rows.old }
+    ensures rows { rows.new ≡ rows_after (P.rules monitor.old.pile) monitor.old.ledger bytes.now rows.old }
+    ensures state { monitor.new.ledger.state.cells ≡ state_run (P.rules monitor.old.pile) monitor.old.ledger bytes.now rows.old }
     ensures policy { monitor.new.ledger.policy ≡ monitor.old.ledger.policy }
     ensures pile { monitor.new.pile ≡ monitor.old.pile }
-    ensures law { LivesOn (rules monitor.old.pile) monitor.old.ledger bytes.now rows.old monitor.new.ledger.state.cells }
+    ensures law { LivesOn (P.rules monitor.old.pile) monitor.old.ledger bytes.now rows.old monitor.new.ledger.state.cells }
     ensures within { (result.rows ≤ length rows.old) × ((result.rows ≤ result.bytes) × (result.bytes ≤ length bytes.now)) }
-    ensures joins { result.end ≡ Ok NoRowLeft → Joins (rules monitor.old.pile) monitor.old.ledger.policy.draft.tables monitor.old.ledger.state.cells bytes.now (length rows.old) }
+    ensures joins { result.end ≡ Ok NoRowLeft → Joins (P.rules monitor.old.pile) monitor.old.ledger.policy.draft.tables monitor.old.ledger.state.cells bytes.now (length rows.old) }
 {
     let mut done = Progress { rows: 0, bytes: 0 };
     let end = fill(monitor, bytes, rows, &mut done);

@@ -47,11 +47,11 @@ impl Ticket {
 impl<P: Rule> Monitor<P> {
     // The event open. A grant gives a ticket for the session; any other answer gives none.
     pub fn open(&mut self, session: u8, user: u8) -> Result<Ticket, Answer>
-        ensures answer { result ≡ ticketed session (answer_to (rules self.old.pile) self.old.ledger (event.Open session user)) }
-        ensures state { self.new.ledger.state.cells ≡ state_after (rules self.old.pile) self.old.ledger (event.Open session user) }
+        ensures answer { result ≡ ticketed session (answer_to (P.rules self.old.pile) self.old.ledger (event.Open session user)) }
+        ensures state { self.new.ledger.state.cells ≡ state_after (P.rules self.old.pile) self.old.ledger (event.Open session user) }
         ensures policy { self.new.ledger.policy ≡ self.old.ledger.policy }
         ensures pile { self.new.pile ≡ self.old.pile }
-        ensures law { Adds (rules self.old.pile) self.old.ledger (event.Open session user ∷ []) (answer_to (rules self.old.pile) self.old.ledger (event.Open session user) ∷ []) self.new.ledger.state.cells }
+        ensures law { Adds (P.rules self.old.pile) self.old.ledger (event.Open session user ∷ []) (answer_to (P.rules self.old.pile) self.old.ledger (event.Open session user) ∷ []) self.new.ledger.state.cells }
     {
         match self.decide(Event::Open { session, user }) {
             Answer::Granted { .. } => Ok(Ticket {
@@ -64,11 +64,11 @@ impl<P: Rule> Monitor<P> {
 
     // The event close. A grant uses the ticket up; any other answer hands it back.
     pub fn close(&mut self, ticket: Ticket) -> Result<Answer, (Ticket, Answer)>
-        ensures answer { result ≡ handed_back ticket (answer_to (rules self.old.pile) self.old.ledger (event.Close ticket.session)) }
-        ensures state { self.new.ledger.state.cells ≡ state_after (rules self.old.pile) self.old.ledger (event.Close ticket.session) }
+        ensures answer { result ≡ handed_back ticket (answer_to (P.rules self.old.pile) self.old.ledger (event.Close ticket.session)) }
+        ensures state { self.new.ledger.state.cells ≡ state_after (P.rules self.old.pile) self.old.ledger (event.Close ticket.session) }
         ensures policy { self.new.ledger.policy ≡ self.old.ledger.policy }
         ensures pile { self.new.pile ≡ self.old.pile }
-        ensures law { Adds (rules self.old.pile) self.old.ledger (event.Close ticket.session ∷ []) (answer_to (rules self.old.pile) self.old.ledger (event.Close ticket.session) ∷ []) self.new.ledger.state.cells }
+        ensures law { Adds (P.rules self.old.pile) self.old.ledger (event.Close ticket.session ∷ []) (answer_to (P.rules self.old.pile) self.old.ledger (event.Close ticket.session) ∷ []) self.new.ledger.state.cells }
     {
         let session = ticket.session;
         match self.decide(Event::Close { session }) {

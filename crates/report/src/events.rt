@@ -44,7 +44,7 @@ pub(crate) fn write_events<P: Rule>(
     bytes: &[u8],
 ) -> fmt::Result
     requires { length bytes.now ≤ 65536 }
-    ensures { OnOk result (string_bytes text.new ≡ string_bytes text.old ++ events_text (rules monitor.old.pile) monitor.old.ledger.policy.draft.tables monitor.old.ledger.state.cells bytes.now) }
+    ensures { OnOk result (string_bytes text.new ≡ string_bytes text.old ++ events_text (P.rules monitor.old.pile) monitor.old.ledger.policy.draft.tables monitor.old.ledger.state.cells bytes.now) }
 {
     let mut rows = [NO_ROW; ROWS];
     let mut rest = bytes;

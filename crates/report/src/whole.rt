@@ -20,8 +20,8 @@ pub fn whole_roll_by<P: Rule + Drop>(
     bytes: &[u8],
     pile: P,
 ) -> Result<String, fmt::Error>
-    ensures text { IfOk result (λ t. string_bytes t ≡ whole_roll_text (rules pile) bytes.now) }
-    ensures law { IfOk result (λ t. Rests (rules pile) bytes.now (string_bytes t)) }
+    ensures text { IfOk result (λ t. string_bytes t ≡ whole_roll_text (P.rules pile) bytes.now) }
+    ensures law { IfOk result (λ t. Rests (P.rules pile) bytes.now (string_bytes t)) }
 {
     let mut text = String::new(heap);
     if bytes.len() > MOST {

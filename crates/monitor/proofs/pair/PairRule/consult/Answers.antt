@@ -1,7 +1,7 @@
 use Rattle.std.proofs.Common.{Ok, Err, refl, ap, ◌∙◌}
 use Rattle.monitor.specs.Meaning.{Ruling}
 use Rattle.monitor.specs.declared.answer.Reason.{Reason}
-use Rattle.monitor.specs.Piles.{ruling_upper, ruling_lower}
+use Rattle.monitor.proofs.Piles.{ruling_upper, ruling_lower}
 use Rattle.monitor.proofs.pair.PairRule.consult.Goals as goal
 
 pub returns-in-Err : goal.returns-in-Err

@@ -1,5 +1,5 @@
 use Rattle.std.proofs.Common.{◌∙◌}
-use Rattle.monitor.specs.Piles.{places_append}
+use Rattle.monitor.proofs.Piles.{places_append}
 use Rattle.monitor.proofs.pair.PairRule.places.Goals as goal
 
 pub returns : goal.returns
