@@ -8,7 +8,7 @@ ghost use Rattle.monitor.specs.Effect.{put_session};
 ghost use Rattle.families.specs.Dependency.{dependency, unmet_by, unmet_number, unmet_subject, missing, unmet};
 ghost use Rattle.families.specs.Family.{Exact};
 ghost use Rattle.families.specs.Leaning.{dependency_law};
-ghost use borrow.Author.Rules;
+ghost use Rattle.std.proofs.Common.{rules};
 
 use monitor::answer::Reason;
 use monitor::cells::Session;
@@ -92,7 +92,7 @@ pub struct Dependency {}
 impl Rule for Dependency {
     ghost rules = { λ _. dependency ∷ [] };
 
-    ghost some = { Prim.search Needs.needs };
+    ghost some = { Prim.search rules };
 
     ghost lawful = { λ x. (dependency_law, tt) };
 

@@ -9,8 +9,8 @@ use Rattle.families.proofs.cardinality.users_of.Goals.{then-contains, else-conta
 pub loop-user-init : goal.loop-user-init
 loop-user-init c = sym (count_start (λ u. is_authorised c.args.cells.now u c.args.role))
 
-pub overflow-add-count : goal.overflow-add-count
-overflow-add-count c =
+pub overflow_add-count : goal.overflow_add-count
+overflow_add-count c =
     let few = count_most c.loop-user.user (λ u. is_authorised c.args.cells.now u c.args.role) in
     let low : c.loop-user.count ≤ 64 = omega (arith, c.loop-user.invariant, c.loop-user-test.true) in
     search rules
