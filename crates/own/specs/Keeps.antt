@@ -1,5 +1,6 @@
--- The rule once-per-user keeps its law: from a state that it allows, an event that it admits leads to one that it allows.
-use Rattle.std.specs.Prelude.{◌≡◌, ℕ, true, ◌&&◌, ◌⊎◌, ◌==◌, refl}
+-- The rule once-per-user keeps its law: from a state that it allows, an event leads to one that it allows, unless it activates the
+-- role where its owner has it in use. It proves, for the law of the rule, and assumes nothing.
+use Rattle.std.specs.Prelude.{◌≡◌, ℕ, true, not, ◌&&◌, ◌⊎◌, ◌==◌, refl}
 use Rattle.std.proofs.Common.{sym, ap, ◌∙◌, inl, inr}
 use Rattle.std.proofs.lemmas.Bool.{both_ways, eq-eqb, and_from, not-true}
 use Rattle.sets.specs.Sets.{has}
@@ -13,12 +14,12 @@ use Rattle.monitor.specs.declared.cells.Cells.{Cells}
 use Rattle.monitor.specs.declared.cells.Session.{Session}
 use Rattle.monitor.specs.declared.cells.Session.TheVariants as session
 use Rattle.monitor.specs.declared.cells.Whose.TheVariants.{User}
-use Rattle.monitor.specs.Cells.{active, owner, counts, session_at, is_active, blank}
+use Rattle.monitor.specs.Cells.{active, active_in, owner, counts, session_at, is_active, blank}
 use Rattle.monitor.specs.Effect.{put_session, activated, deactivated, next}
 use Rattle.monitor.proofs.Begun.{all_closed}
 use Rattle.monitor.proofs.Sessions.{active-counted}
 use Rattle.monitor.proofs.Steps.{has_either, own_counts}
-use Rattle.own.specs.Once.{Once, admitted, in_use}
+use Rattle.own.specs.Once.{Once}
 
 never : {X : Type 0} (r n : ℕ) → n ≡ 0 → has n r ≡ true → X
 never r n e h = absurd (both_ways (has n r) (ap (λ m. has m r) e ∙ has-zero r) h)
@@ -46,6 +47,10 @@ deactivated_had r q session.Closed h = h
 deactivated_had r q (session.Open o a) h = has-without_member 32 a.bits r q h
 
 module _ (q : ℕ) (c : Cells) (once : Once q c) where
+  -- r is another role, or the owner of the session has the role active in no session
+  abbrev pub Spared : ℕ → ℕ → Type 0
+  Spared s r = not (r == q && has (active_in (User (owner (session_at c s))) c.sessions) q) ≡ true
+
   -- the session may stand at s: its owner has the role active in no other
   abbrev Lone : ℕ → Session → Type 0
   Lone s x = (k : ℕ) → has (active x) q ≡ true → is_active c k q ≡ true → owner x ≡ owner (session_at c k) → s ≡ k
@@ -60,27 +65,27 @@ module _ (q : ℕ) (c : Cells) (once : Once q c) where
       i
 
   -- the role is activated where its owner has it in no session
-  activated_lone : (s r : ℕ) → admitted q c (Activate s r) ≡ true → Lone s (activated r (session_at c s))
-  activated_lone s r admits k h g e =
+  activated_lone : (s r : ℕ) → Spared s r → Lone s (activated r (session_at c s))
+  activated_lone s r spared k h g e =
       let same : owner (session_at c s) ≡ owner (session_at c k) = sym (activated-owner r (session_at c s)) ∙ e in
       elim (activated_had r q (session_at c s) h) [
         | inl a ↦ once s k a g same
         | inr is ↦
             let counted : counts (User (owner (session_at c s))) (session_at c k) ≡ true =
             ap (λ o. counts (User o) (session_at c k)) same ∙ own_counts (session_at c k) q g in
-            absurd (both_ways (r == q && in_use q c s) (not-true _ admits)
-            (and_from (r == q) (in_use q c s) (eq-eqb r q (sym is)) (active-counted (User (owner (session_at c s))) c.sessions k q counted g)))
+            absurd (both_ways (r == q && has (active_in (User (owner (session_at c s))) c.sessions) q) (not-true _ spared)
+            (and_from (r == q) _ (eq-eqb r q (sym is)) (active-counted (User (owner (session_at c s))) c.sessions k q counted g)))
       ]
 
   deactivated_lone : (s r : ℕ) → Lone s (deactivated r (session_at c s))
   deactivated_lone s r k h g e = once s k (deactivated_had r q (session_at c s) h) g (sym (deactivated-owner r (session_at c s)) ∙ e)
 
-  pub next_once : (t : Tables) (e : Event) → admitted q c e ≡ true → Once q (next t c e)
-  next_once t (Assign u r) admits = once
-  next_once t (Deassign u r) admits = once
-  next_once t (Enable r) admits = once
-  next_once t (Disable r) admits = once
-  next_once t (Open s u) admits = put_once s (session.Open u no_roles) (λ k h. never q 0 refl h)
-  next_once t (Close s) admits = put_once s session.Closed (λ k h. never q 0 refl h)
-  next_once t (Activate s r) admits = put_once s (activated r (session_at c s)) (activated_lone s r admits)
-  next_once t (Deactivate s r) admits = put_once s (deactivated r (session_at c s)) (deactivated_lone s r)
+  pub next_once : (t : Tables) (e : Event) → ((s r : ℕ) → e ≡ Activate s r → Spared s r) → Once q (next t c e)
+  next_once t (Assign u r) spared = once
+  next_once t (Deassign u r) spared = once
+  next_once t (Enable r) spared = once
+  next_once t (Disable r) spared = once
+  next_once t (Open s u) spared = put_once s (session.Open u no_roles) (λ k h. never q 0 refl h)
+  next_once t (Close s) spared = put_once s session.Closed (λ k h. never q 0 refl h)
+  next_once t (Activate s r) spared = put_once s (activated r (session_at c s)) (activated_lone s r (spared s r refl))
+  next_once t (Deactivate s r) spared = put_once s (deactivated r (session_at c s)) (deactivated_lone s r)

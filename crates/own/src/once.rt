@@ -1,6 +1,7 @@
 // A role that a user never has active in two sessions at once.
-ghost use Rattle.own.specs.Once.{once_per_user};
-ghost use Rattle.std.proofs.Common.{arith};
+ghost use Rattle.std.specs.Prelude.{◌≡◌, true};
+ghost use Rattle.own.specs.Once.{once_per_user, admitted};
+ghost use Rattle.std.proofs.Common.{arith, subst};
 ghost use Rattle.own.specs.Keeps.{blank_once, next_once};
 
 use monitor::cells::{Session, Whose};
@@ -20,7 +21,7 @@ impl OwnRule for OncePerUser {
     ghost lawful = { λ x.
         record {
           fresh = λ t law. blank_once x.role;
-          keeps = λ t c e law fits can once admits. next_once x.role c once t e admits;
+          keeps = λ t c e law fits can once admits. next_once x.role c once t e (λ s r is. subst (λ v. admitted x.role c v ≡ true) is admits);
           named = λ t c e. (omega arith, omega arith);
         } };
 
