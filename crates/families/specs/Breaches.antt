@@ -1,4 +1,4 @@
--- A family admits an event where none of its questions is breached.
+-- A family admits an event where none of its questions is breached. It proves, for the laws of the families, and assumes nothing.
 use Rattle.std.specs.Prelude.{◌≡◌, ℕ, true, false, not, is_some, Some, None, Option, refl}
 use Rattle.std.proofs.Common.{ap, arith}
 use Rattle.std.specs.Option.{option_map}

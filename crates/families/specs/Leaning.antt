@@ -1,4 +1,4 @@
--- Dependency keeps its laws, and is exact.
+-- Dependency keeps its laws, and is exact. It proves, for the law of the family, and assumes nothing.
 use Rattle.std.specs.Prelude.{◌≡◌, ℕ, ◌≤◌, true, false, not, ◌&&◌, ◌⊎◌, Some, None, Option, refl}
 use Rattle.std.proofs.Common.{sym, ap, ◌∙◌, inl, inr, arith}
 use Rattle.std.specs.Option.{option_map}

@@ -1,4 +1,4 @@
--- Cardinality keeps the laws of a rule, and is exact.
+-- Cardinality keeps the laws of a rule, and is exact. It proves, for the law of the family, and assumes nothing.
 use Rattle.std.specs.Prelude.{◌≡◌, ℕ, zero, suc, ◌≤◌, Bool, true, false, not, ◌⊎◌, List, [], ◌∷◌, get_or, is_some, Some, None, Option, ◌≢◌, slice_index_or, slice_set, refl}
 use Rattle.std.proofs.Common.{sym, ap, subst, ◌∙◌, inl, inr, arith}
 use Rattle.std.proofs.lemmas.List.{get_or-set_other}

@@ -1,4 +1,4 @@
--- The laws of precedence, and the roles assigned to some user.
+-- The laws of precedence, and the roles assigned to some user. It proves, for the law of the family, and assumes nothing.
 use Rattle.std.specs.Prelude.{◌≡◌, ℕ, zero, suc, ◌+◌, ◌<◌, ◌≤◌, true, not, ◌&&◌, List, [], ◌∷◌, length, drop, Some, None, Option, slice_index_or}
 use Rattle.std.proofs.Common.{sym, ap, ◌∙◌, inl, inr, arith}
 use Rattle.std.proofs.lemmas.List.{at_drop_more, at_drop_all}

@@ -1,4 +1,4 @@
--- The rule once-per-user keeps its law: from a state that it allows, an event leads to one that it allows, unless it activates the
+-- The rule `once_per_user` keeps its law: from a state that it allows, an event leads to one that it allows, unless it activates the
 -- role where its owner has it in use. It proves, for the law of the rule, and assumes nothing.
 use Rattle.std.specs.Prelude.{◌≡◌, ℕ, true, not, ◌&&◌, ◌⊎◌, ◌==◌, refl}
 use Rattle.std.proofs.Common.{sym, ap, ◌∙◌, inl, inr}

@@ -4,7 +4,7 @@
 --   Wide          every row of a table of roles is there
 --   Within        only roles of the policy stand in the rows
 --   Mutual        pairs are stored both ways
---   Users-...     the same of the conflicting users, and nobody conflicts with himself
+--   Users...      the same of the conflicting users, and nobody conflicts with himself
 use Rattle.std.specs.Prelude.{◌≡◌, ℕ, ◌<◌, ◌≤◌, true, false, List, [], length, slice_index_or}
 use Rattle.sets.specs.declared.roles.RoleSet.{RoleSet}
 use Rattle.sets.specs.declared.users.UserSet.{UserSet}
