@@ -12,7 +12,7 @@ use Rattle.sets.proofs.Laws.{has-without_member}
 use Rattle.records.specs.declared.event.Event.{Event}
 use Rattle.records.specs.declared.event.Event.TheVariants.{Assign, Deassign, Enable, Disable, Open, Close, Activate, Deactivate}
 use Rattle.policy.specs.declared.tables.Tables.{Tables}
-use Rattle.policy.specs.declared.verdict.Verdict.TheVariants.{SelfConflict, LostConflict}
+use Rattle.policy.specs.declared.verdict.Failure.TheVariants.{SelfConflict, LostConflict}
 use Rattle.policy.specs.Entries.{no_roles, inherits, ssd_pair, dsd_pair, users_pair}
 use Rattle.policy.specs.Seniority.{Senior, itself}
 use Rattle.monitor.specs.declared.cells.Cells.{Cells}

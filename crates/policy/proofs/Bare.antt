@@ -1,8 +1,7 @@
 -- The bare policy passes.
-use Rattle.std.proofs.Common.{◌≡◌, refl, subst}
+use Rattle.std.proofs.Common.{◌≡◌, Ok, refl, subst}
 use Rattle.sets.specs.First.{first_of}
 use Rattle.sets.specs.Sets.{has, union, with_member}
-use Rattle.policy.specs.declared.verdict.Verdict.TheVariants.{Passed}
 use Rattle.policy.specs.Questions.{Passes, Vetted}
 use Rattle.policy.specs.Search.{verdict}
 use Rattle.policy.specs.Seniority.{gathered, closed_below}
@@ -10,7 +9,7 @@ use Rattle.policy.specs.Updates.{only, bare}
 use Rattle.policy.proofs.Keeping.{bare_well_formed}
 use Rattle.policy.proofs.Verdicts.{verdict_right}
 
-bare-verdict : verdict bare ≡ Passed
+bare-verdict : verdict bare ≡ Ok tt
 unfolding only first_of has union with_member gathered closed_below
 bare-verdict = refl
 

@@ -1,15 +1,15 @@
 -- What the written rules say of the four worked policies, by computation.
-use Rattle.std.proofs.Common.{◌≡◌, ℕ, List, Ok, refl, subst}
+use Rattle.std.proofs.Common.{◌≡◌, ℕ, List, Ok, Err, refl, subst}
 use Rattle.records.specs.Kinds.{body_length}
 use Rattle.sets.specs.First.{first_of}
 use Rattle.sets.specs.Sets.{has, union, with_member}
-use Rattle.policy.specs.declared.verdict.Verdict.{Verdict}
-use Rattle.policy.specs.declared.verdict.Verdict.TheVariants.{Passed, Cycle, SelfConflict, LostConflict}
+use Rattle.policy.specs.declared.verdict.Failure.TheVariants.{Cycle, SelfConflict, LostConflict}
 use Rattle.policy.specs.Questions.{Vetted}
 use Rattle.policy.specs.Reading.{read_from, reading, answered, drafted}
 use Rattle.policy.specs.Search.{verdict}
 use Rattle.policy.specs.Seniority.{gathered, closed_below}
 use Rattle.policy.specs.Updates.{only}
+use Rattle.policy.specs.Verdicts.{Verdict}
 use Rattle.policy.specs.Worked.{Judged, Worked, sample, unpaired, selfpaired, cyclic}
 use Rattle.policy.proofs.Turns.{reading_well_formed}
 use Rattle.policy.proofs.Verdicts.{verdict_right}
@@ -20,8 +20,8 @@ judged bytes count v e h = (e, subst (Vetted (drafted (reading bytes))) h (verdi
 pub policies : Worked
 unfolding body_length read_from only first_of has union with_member gathered closed_below
 policies = record {
-  the_sample_passes = judged sample 17 Passed refl refl;
-  a_senior_lacks_a_conflict = judged unpaired 14 (LostConflict 0 1 2) refl refl;
-  in_conflict_with_itself = judged selfpaired 8 (SelfConflict 2) refl refl;
-  inheriting_each_other = judged cyclic 11 (Cycle 0 1) refl refl;
+  the_sample_passes = judged sample 17 (Ok tt) refl refl;
+  a_senior_lacks_a_conflict = judged unpaired 14 (Err (LostConflict 0 1 2)) refl refl;
+  in_conflict_with_itself = judged selfpaired 8 (Err (SelfConflict 2)) refl refl;
+  inheriting_each_other = judged cyclic 11 (Err (Cycle 0 1)) refl refl;
 }

@@ -5,12 +5,12 @@ use Rattle.sets.specs.First.{first_of}
 use Rattle.sets.specs.declared.roles.RoleSet.{RoleSet}
 use Rattle.sets.proofs.First.{Found, found, all_none}
 use Rattle.policy.specs.declared.tables.Tables.{Tables}
-use Rattle.policy.specs.declared.verdict.Verdict.{Verdict}
-use Rattle.policy.specs.declared.verdict.Verdict.TheVariants.{Passed, Cycle, SelfConflict, LostConflict, BothConflicts, LostUsers}
+use Rattle.policy.specs.declared.verdict.Failure.{Failure}
+use Rattle.policy.specs.declared.verdict.Failure.TheVariants.{Cycle, SelfConflict, LostConflict, BothConflicts, LostUsers}
 use Rattle.policy.specs.Entries.{holds, inherits, ssd_pair, dsd_pair, users_pair}
 use Rattle.policy.specs.Seniority.{Senior, closure, TellsSeniority}
-use Rattle.policy.specs.Verdicts.{Lower, Sooner}
-use Rattle.policy.specs.Questions.{Witness, Passes, Vetted}
+use Rattle.policy.specs.Verdicts.{Verdict, Lower, Sooner}
+use Rattle.policy.specs.Questions.{Witness, Passes, Soonest, Vetted}
 use Rattle.policy.specs.Search.{cycle_at, cycle_found, self_conflict_at, self_conflict_found, lost_conflict, lost_conflict_at, lost_conflict_found, both_conflicts_at, both_conflicts_found, lost_user_at, lost_users_at, lost_users_found, settled, searched, verdict}
 use Rattle.policy.specs.WellFormed.{WellFormed}
 use Rattle.policy.proofs.Closing.{senior_within, closure_tells}
@@ -72,8 +72,8 @@ module _ (t : Tables) (w : WellFormed t) (rows : List RoleSet) (tells : TellsSen
       let i = cycle_inside a b x in
       cycle_refuted a b (all_none _ (cycle_at rows a) (all_none _ (λ c. first_of t.sizes.roles (cycle_at rows c)) e a i.0) b i.1) x
 
-  a_cycle : (v : Verdict) → cycle_found rows t ≡ Some v → Vetted t v
-  a_cycle v e = subst (Vetted t) h.1 ((ltb-true f.at g.at p.0, tells.held_senior f.at g.at q.0, tells.held_senior g.at f.at q.1), sooner)
+  a_cycle : (f : Failure) → cycle_found rows t ≡ Some f → Soonest t f
+  a_cycle v e = subst (Soonest t) h.1 ((ltb-true f.at g.at p.0, tells.held_senior f.at g.at q.0, tells.held_senior g.at f.at q.1), sooner)
     where
       n : ℕ
       n = t.sizes.roles
@@ -102,8 +102,7 @@ module _ (t : Tables) (w : WellFormed t) (rows : List RoleSet) (tells : TellsSen
         ]
       ]
 
-      sooner : (o : Verdict) → Sooner o (Cycle f.at g.at) → Witness t o → ⊥
-      sooner Passed s u = u
+      sooner : (o : Failure) → Sooner o (Cycle f.at g.at) → Witness t o → ⊥
       sooner (Cycle x y) s u = low x y (same_question 11 s) u
       sooner (SelfConflict x) s u = not_sooner 12 11 (omega arith) s
       sooner (LostConflict x y z) s u = not_sooner 13 11 (omega arith) s
@@ -122,8 +121,8 @@ module _ (t : Tables) (w : WellFormed t) (rows : List RoleSet) (tells : TellsSen
       self_refuted a (all_none t.sizes.roles (self_conflict_at t) e a (elim x [ inl h ↦ (w.ssd_within a a h).0 | inr h ↦ (w.dsd_within a a h).0 ])) x
 
   a_self_conflict : ((a b : ℕ) → Witness t (Cycle a b) → ⊥)
-      → (v : Verdict) → self_conflict_found t ≡ Some v → Vetted t v
-  a_self_conflict c1 v e = subst (Vetted t) h.1 (or_cases (ssd_pair t f.at f.at) _ h.0, sooner)
+      → (f : Failure) → self_conflict_found t ≡ Some f → Soonest t f
+  a_self_conflict c1 v e = subst (Soonest t) h.1 (or_cases (ssd_pair t f.at f.at) _ h.0, sooner)
     where
       f : Found t.sizes.roles (self_conflict_at t) v
       f = found t.sizes.roles (self_conflict_at t) v e
@@ -134,8 +133,7 @@ module _ (t : Tables) (w : WellFormed t) (rows : List RoleSet) (tells : TellsSen
       low : (x : ℕ) → Lower (x ∷ 0 ∷ 0 ∷ 0 ∷ []) (f.at ∷ 0 ∷ 0 ∷ 0 ∷ []) → Witness t (SelfConflict x) → ⊥
       low x s z = elim s [ inl l ↦ self_refuted x (f.before x l) z | inr m ↦ never_lower (0 ∷ 0 ∷ 0 ∷ []) m.1 ]
 
-      sooner : (o : Verdict) → Sooner o (SelfConflict f.at) → Witness t o → ⊥
-      sooner Passed s u = u
+      sooner : (o : Failure) → Sooner o (SelfConflict f.at) → Witness t o → ⊥
       sooner (Cycle x y) s u = c1 x y u
       sooner (SelfConflict x) s u = low x (same_question 12 s) u
       sooner (LostConflict x y z) s u = not_sooner 13 12 (omega arith) s
@@ -156,18 +154,18 @@ module _ (t : Tables) (w : WellFormed t) (rows : List RoleSet) (tells : TellsSen
   no_lost_conflict : lost_conflict_found rows t ≡ None → (a b c : ℕ) → Witness t (LostConflict a b c) → ⊥
   no_lost_conflict e a b c x =
       let n : ℕ = t.sizes.roles in
-      let at : ℕ → ℕ → ℕ → Option Verdict = lost_conflict_at rows t in
+      let at : ℕ → ℕ → ℕ → Option Failure = lost_conflict_at rows t in
       let i = lost_inside a b c x in
       lost_refuted a b c (all_none n (at a b) (all_none n (λ j. first_of n (at a j)) (all_none n (λ k. first_of n (λ j. first_of n (at k j))) e a i.0) b i.1) c i.2) x
 
   a_lost_conflict : ((a b : ℕ) → Witness t (Cycle a b) → ⊥) → ((a : ℕ) → Witness t (SelfConflict a) → ⊥)
-      → (v : Verdict) → lost_conflict_found rows t ≡ Some v → Vetted t v
-  a_lost_conflict c1 c2 v e = subst (Vetted t) k.1 ((tells.held_senior f.at g.at p.0, q.0, not-true (ssd_pair t f.at h.at) q.1), sooner)
+      → (f : Failure) → lost_conflict_found rows t ≡ Some f → Soonest t f
+  a_lost_conflict c1 c2 v e = subst (Soonest t) k.1 ((tells.held_senior f.at g.at p.0, q.0, not-true (ssd_pair t f.at h.at) q.1), sooner)
     where
       n : ℕ
       n = t.sizes.roles
 
-      at : ℕ → ℕ → ℕ → Option Verdict
+      at : ℕ → ℕ → ℕ → Option Failure
       at = lost_conflict_at rows t
 
       f : Found n (λ a. first_of n (λ b. first_of n (at a b))) v
@@ -202,8 +200,7 @@ module _ (t : Tables) (w : WellFormed t) (rows : List RoleSet) (tells : TellsSen
             ]
           ]
 
-      sooner : (o : Verdict) → Sooner o (LostConflict f.at g.at h.at) → Witness t o → ⊥
-      sooner Passed s u = u
+      sooner : (o : Failure) → Sooner o (LostConflict f.at g.at h.at) → Witness t o → ⊥
       sooner (Cycle x y) s u = c1 x y u
       sooner (SelfConflict x) s u = c2 x u
       sooner (LostConflict x y z) s u = low x y z (same_question 13 s) u
@@ -224,8 +221,8 @@ module _ (t : Tables) (w : WellFormed t) (rows : List RoleSet) (tells : TellsSen
       both_refuted a b (all_none 32 (both_conflicts_at t a) (all_none t.sizes.roles (λ c. first_of 32 (both_conflicts_at t c)) e a i.0) b i.1) x
 
   a_both_conflict : ((a b : ℕ) → Witness t (Cycle a b) → ⊥) → ((a : ℕ) → Witness t (SelfConflict a) → ⊥) → ((a b c : ℕ) → Witness t (LostConflict a b c) → ⊥)
-      → (v : Verdict) → both_conflicts_found t ≡ Some v → Vetted t v
-  a_both_conflict c1 c2 c3 v e = subst (Vetted t) h.1 (and_parts (ssd_pair t f.at g.at) _ h.0, sooner)
+      → (f : Failure) → both_conflicts_found t ≡ Some f → Soonest t f
+  a_both_conflict c1 c2 c3 v e = subst (Soonest t) h.1 (and_parts (ssd_pair t f.at g.at) _ h.0, sooner)
     where
       f : Found t.sizes.roles (λ a. first_of 32 (both_conflicts_at t a)) v
       f = found t.sizes.roles (λ a. first_of 32 (both_conflicts_at t a)) v e
@@ -245,8 +242,7 @@ module _ (t : Tables) (w : WellFormed t) (rows : List RoleSet) (tells : TellsSen
         ]
       ]
 
-      sooner : (o : Verdict) → Sooner o (BothConflicts f.at g.at) → Witness t o → ⊥
-      sooner Passed s u = u
+      sooner : (o : Failure) → Sooner o (BothConflicts f.at g.at) → Witness t o → ⊥
       sooner (Cycle x y) s u = c1 x y u
       sooner (SelfConflict x) s u = c2 x u
       sooner (LostConflict x y z) s u = c3 x y z u
@@ -283,8 +279,8 @@ module _ (t : Tables) (w : WellFormed t) (rows : List RoleSet) (tells : TellsSen
       users_refuted a b u v (all_none 64 (lost_user_at t a b u) (all_none m (λ k. first_of 64 (lost_user_at t a b k)) each u i.first) v i.second) x.2 x.3
 
   a_lost_user : ((a b : ℕ) → Witness t (Cycle a b) → ⊥) → ((a : ℕ) → Witness t (SelfConflict a) → ⊥) → ((a b c : ℕ) → Witness t (LostConflict a b c) → ⊥) → ((a b : ℕ) → Witness t (BothConflicts a b) → ⊥)
-      → (v : Verdict) → lost_users_found rows t ≡ Some v → Vetted t v
-  a_lost_user c1 c2 c3 c4 v e = subst (Vetted t) k.1 ((apart, tells.held_senior a b c.0, p.0, not-true (users_pair t a f.at g.at) p.1), sooner)
+      → (f : Failure) → lost_users_found rows t ≡ Some f → Soonest t f
+  a_lost_user c1 c2 c3 c4 v e = subst (Soonest t) k.1 ((apart, tells.held_senior a b c.0, p.0, not-true (users_pair t a f.at g.at) p.1), sooner)
     where
       n : ℕ
       n = t.sizes.roles
@@ -292,7 +288,7 @@ module _ (t : Tables) (w : WellFormed t) (rows : List RoleSet) (tells : TellsSen
       m : ℕ
       m = t.sizes.users
 
-      at : ℕ → ℕ → ℕ → Option Verdict
+      at : ℕ → ℕ → ℕ → Option Failure
       at x y k = first_of 64 (lost_user_at t x y k)
 
       d : Found n (λ x. first_of n (lost_users_at rows t x)) v
@@ -353,8 +349,7 @@ module _ (t : Tables) (w : WellFormed t) (rows : List RoleSet) (tells : TellsSen
             ]
           ]
 
-      sooner : (o : Verdict) → Sooner o (LostUsers a b f.at g.at) → Witness t o → ⊥
-      sooner Passed s u = u
+      sooner : (o : Failure) → Sooner o (LostUsers a b f.at g.at) → Witness t o → ⊥
       sooner (Cycle x y) s u = c1 x y u
       sooner (SelfConflict x) s u = c2 x u
       sooner (LostConflict x y z) s u = c3 x y z u
@@ -363,8 +358,8 @@ module _ (t : Tables) (w : WellFormed t) (rows : List RoleSet) (tells : TellsSen
 
   -- all five, in their order
 
-  pick : (o : Option Verdict) (rest : Verdict) → ((v : Verdict) → o ≡ Some v → Vetted t v) → (o ≡ None → Vetted t rest) → Vetted t (settled o rest)
-  pick (Some v) rest f g = f v refl
+  pick : (o : Option Failure) (rest : Verdict) → ((f : Failure) → o ≡ Some f → Soonest t f) → (o ≡ None → Vetted t rest) → Vetted t (settled o rest)
+  pick (Some x) rest f g = f x refl
   pick None rest f g = g refl
 
   pub searched_right : Vetted t (searched rows t)
@@ -378,7 +373,6 @@ module _ (t : Tables) (w : WellFormed t) (rows : List RoleSet) (tells : TellsSen
     where
       passes : cycle_found rows t ≡ None → self_conflict_found t ≡ None → lost_conflict_found rows t ≡ None → both_conflicts_found t ≡ None
           → lost_users_found rows t ≡ None → Passes t
-      passes e1 e2 e3 e4 e5 Passed x = x
       passes e1 e2 e3 e4 e5 (Cycle a b) x = no_cycle e1 a b x
       passes e1 e2 e3 e4 e5 (SelfConflict a) x = no_self_conflict e2 a x
       passes e1 e2 e3 e4 e5 (LostConflict a b c) x = no_lost_conflict e3 a b c x
@@ -389,20 +383,3 @@ module _ (t : Tables) (w : WellFormed t) (rows : List RoleSet) (tells : TellsSen
 pub verdict_right : (t : Tables) → WellFormed t → Vetted t (verdict t)
 verdict_right t w =
     searched_right t w (closure t.hierarchy.juniors) (closure_tells t.hierarchy.juniors t.sizes.roles w.roles_sized.1 w.juniors_within)
-
--- what the code found, question by question
-pub settle_some : (o : Option Verdict) (v rest : Verdict) → Some v ≡ o → v ≡ settled o rest
-settle_some o v rest e = ap (λ (p : Option Verdict). settled p rest) e
-
-pub settle_none : (o : Option Verdict) (v rest : Verdict) → None ≡ o → v ≡ rest → v ≡ settled o rest
-settle_none o v rest e h = h ∙ ap (λ (p : Option Verdict). settled p rest) e
-
--- the answer and the law of it
-pub record Right (t : Tables) (v : Verdict) : Type 0 where
-  pub answer : v ≡ verdict t
-  pub law : Vetted t v
-
-pub told_right : (t : Tables) (rows : List RoleSet) (v : Verdict) → WellFormed t → rows ≡ closure t.hierarchy.juniors → v ≡ searched rows t → Right t v
-told_right t rows v w r e =
-    let same : v ≡ verdict t = e ∙ ap (λ (s : List RoleSet). searched s t) r in
-    record { answer = same; law = subst (Vetted t) (sym same) (verdict_right t w) }

@@ -1,24 +1,34 @@
--- The number and the names of each verdict, and when one comes before another. Assumes nothing.
-use Rattle.std.specs.Prelude.{◌≡◌, ℕ, ◌<◌, ◌⊎◌, List, [], ◌∷◌}
-use Rattle.policy.specs.declared.verdict.Verdict.{Verdict}
-use Rattle.policy.specs.declared.verdict.Verdict.TheVariants.{Passed, Cycle, SelfConflict, LostConflict, BothConflicts, LostUsers}
+-- The number and the names of each verdict, and when one failure comes before another. Assumes nothing.
+use Rattle.std.specs.Prelude.{◌≡◌, ℕ, ◌<◌, ◌⊎◌, List, [], ◌∷◌, Ok, Err, Result}
+use Rattle.policy.specs.declared.verdict.Failure.{Failure}
+use Rattle.policy.specs.declared.verdict.Failure.TheVariants.{Cycle, SelfConflict, LostConflict, BothConflicts, LostUsers}
 
-abbrev pub number_of : Verdict → ℕ
-number_of Passed = 0
-number_of (Cycle a b) = 11
-number_of (SelfConflict a) = 12
-number_of (LostConflict a b c) = 13
-number_of (BothConflicts a b) = 14
-number_of (LostUsers a b u v) = 15
+-- a policy passes, or fails a question
+abbrev pub Verdict : Type 0
+Verdict = Result (Unit {0}) Failure
+
+abbrev pub failure_number : Failure → ℕ
+failure_number (Cycle a b) = 11
+failure_number (SelfConflict a) = 12
+failure_number (LostConflict a b c) = 13
+failure_number (BothConflicts a b) = 14
+failure_number (LostUsers a b u v) = 15
 
 -- four names; unused ones are 0
+abbrev pub failure_names : Failure → List ℕ
+failure_names (Cycle a b) = a ∷ b ∷ 0 ∷ 0 ∷ []
+failure_names (SelfConflict a) = a ∷ 0 ∷ 0 ∷ 0 ∷ []
+failure_names (LostConflict a b c) = a ∷ b ∷ c ∷ 0 ∷ []
+failure_names (BothConflicts a b) = a ∷ b ∷ 0 ∷ 0 ∷ []
+failure_names (LostUsers a b u v) = a ∷ b ∷ u ∷ v ∷ []
+
+abbrev pub number_of : Verdict → ℕ
+number_of (Ok _) = 0
+number_of (Err f) = failure_number f
+
 abbrev pub names_of : Verdict → List ℕ
-names_of Passed = 0 ∷ 0 ∷ 0 ∷ 0 ∷ []
-names_of (Cycle a b) = a ∷ b ∷ 0 ∷ 0 ∷ []
-names_of (SelfConflict a) = a ∷ 0 ∷ 0 ∷ 0 ∷ []
-names_of (LostConflict a b c) = a ∷ b ∷ c ∷ 0 ∷ []
-names_of (BothConflicts a b) = a ∷ b ∷ 0 ∷ 0 ∷ []
-names_of (LostUsers a b u v) = a ∷ b ∷ u ∷ v ∷ []
+names_of (Ok _) = 0 ∷ 0 ∷ 0 ∷ 0 ∷ []
+names_of (Err f) = failure_names f
 
 -- names are compared first name first
 abbrev pub Lower : List ℕ → List ℕ → Type 0
@@ -27,5 +37,5 @@ Lower (x ∷ xs) [] = ⊥
 Lower (x ∷ xs) (y ∷ ys) = (x < y) ⊎ ((x ≡ y) × Lower xs ys)
 
 -- an earlier question comes first; of one question, the lower names
-abbrev pub Sooner : Verdict → Verdict → Type 0
-Sooner v w = (number_of v < number_of w) ⊎ ((number_of v ≡ number_of w) × Lower (names_of v) (names_of w))
+abbrev pub Sooner : Failure → Failure → Type 0
+Sooner f g = (failure_number f < failure_number g) ⊎ ((failure_number f ≡ failure_number g) × Lower (failure_names f) (failure_names g))

@@ -1,9 +1,9 @@
 -- What the written rules say of four small policies, as bytes. Assumes nothing.
-use Rattle.std.specs.Prelude.{◌≡◌, ℕ, List, [], ◌∷◌, Ok}
-use Rattle.policy.specs.declared.verdict.Verdict.{Verdict}
-use Rattle.policy.specs.declared.verdict.Verdict.TheVariants.{Passed, Cycle, SelfConflict, LostConflict}
+use Rattle.std.specs.Prelude.{◌≡◌, ℕ, List, [], ◌∷◌, Ok, Err}
+use Rattle.policy.specs.declared.verdict.Failure.TheVariants.{Cycle, SelfConflict, LostConflict}
 use Rattle.policy.specs.Questions.{Vetted}
 use Rattle.policy.specs.Reading.{reading, answered, drafted}
+use Rattle.policy.specs.Verdicts.{Verdict}
 
 -- the bytes are read whole, and the verdict on them is the right one
 abbrev pub Judged : List ℕ → ℕ → Verdict → Type 0
@@ -26,7 +26,7 @@ abbrev pub cyclic : List ℕ
 cyclic = 1 ∷ 2 ∷ 4 ∷ 2 ∷ 2 ∷ 0 ∷ 1 ∷ 2 ∷ 1 ∷ 0 ∷ 12 ∷ []
 
 pub record Worked : Type 0 where
-  pub the_sample_passes : Judged sample 17 Passed
-  pub a_senior_lacks_a_conflict : Judged unpaired 14 (LostConflict 0 1 2)
-  pub in_conflict_with_itself : Judged selfpaired 8 (SelfConflict 2)
-  pub inheriting_each_other : Judged cyclic 11 (Cycle 0 1)
+  pub the_sample_passes : Judged sample 17 (Ok tt)
+  pub a_senior_lacks_a_conflict : Judged unpaired 14 (Err (LostConflict 0 1 2))
+  pub in_conflict_with_itself : Judged selfpaired 8 (Err (SelfConflict 2))
+  pub inheriting_each_other : Judged cyclic 11 (Err (Cycle 0 1))

@@ -33,6 +33,7 @@ impl Checked {
     }
 
     // Vets the draft: one that passes is held from now on, and after a refusal the held one is as it was.
+    #[tactic(auto, using(crate::proofs::Drafts::vetted))]
     pub fn check(&mut self, draft: &Draft) -> Verdict
         ensures answer { result ≡ verdict draft.now.tables }
         ensures law { Vetted draft.now.tables result }
@@ -40,7 +41,7 @@ impl Checked {
     {
         let seniority = Seniority::of(draft);
         let verdict = vet_by(draft, &seniority);
-        if let Verdict::Passed = verdict {
+        if verdict.is_ok() {
             self.policy = Approved {
                 draft: *draft,
                 seniority,

@@ -1,10 +1,9 @@
 ghost use Rattle.std.specs.Prelude.{◌≡◌};
-ghost use Rattle.policy.specs.Verdicts.{number_of, names_of};
+ghost use Rattle.policy.specs.Verdicts.{failure_number, failure_names, number_of, names_of};
 
-// The verdict on a policy: passed, or the question that fails with its lowest witness.
-#[derive(Clone, Copy, PartialEq, Eq)]
-pub enum Verdict {
-    Passed,
+// The question that a policy fails, with its lowest witness.
+#[derive(Clone, Copy, PartialEq, Eq, Debug)]
+pub enum Failure {
     // two different roles are each senior to the other
     Cycle {
         first: u8,
@@ -34,41 +33,62 @@ pub enum Verdict {
     },
 }
 
-impl Verdict {
-    // The number that is printed for the verdict.
+// The verdict on a policy: it passes, or it fails a question.
+pub type Verdict = Result<(), Failure>;
+
+impl Failure {
+    // The number that is printed for the failed question.
     pub fn number(self) -> u8
-        ensures { result ≡ number_of self }
+        ensures { result ≡ failure_number self }
     {
         match self {
-            Verdict::Passed => 0,
-            Verdict::Cycle { .. } => 11,
-            Verdict::SelfConflict { .. } => 12,
-            Verdict::LostConflict { .. } => 13,
-            Verdict::BothConflicts { .. } => 14,
-            Verdict::LostUsers { .. } => 15,
+            Failure::Cycle { .. } => 11,
+            Failure::SelfConflict { .. } => 12,
+            Failure::LostConflict { .. } => 13,
+            Failure::BothConflicts { .. } => 14,
+            Failure::LostUsers { .. } => 15,
         }
     }
 
     // The four names of the witness; unused ones are 0.
     pub fn names(self) -> [u8; 4]
-        ensures { result ≡ names_of self }
+        ensures { result ≡ failure_names self }
     {
         match self {
-            Verdict::Passed => [0, 0, 0, 0],
-            Verdict::Cycle { first, second } => [first, second, 0, 0],
-            Verdict::SelfConflict { role } => [role, 0, 0, 0],
-            Verdict::LostConflict {
+            Failure::Cycle { first, second } => [first, second, 0, 0],
+            Failure::SelfConflict { role } => [role, 0, 0, 0],
+            Failure::LostConflict {
                 senior,
                 junior,
                 other,
             } => [senior, junior, other, 0],
-            Verdict::BothConflicts { first, second } => [first, second, 0, 0],
-            Verdict::LostUsers {
+            Failure::BothConflicts { first, second } => [first, second, 0, 0],
+            Failure::LostUsers {
                 senior,
                 junior,
                 first,
                 second,
             } => [senior, junior, first, second],
         }
+    }
+}
+
+// The number that is printed for a verdict: 0 where the policy passes.
+pub fn number(verdict: Verdict) -> u8
+    ensures { result ≡ number_of verdict }
+{
+    match verdict {
+        Ok(()) => 0,
+        Err(failure) => failure.number(),
+    }
+}
+
+// The four names that are printed for a verdict.
+pub fn names(verdict: Verdict) -> [u8; 4]
+    ensures { result ≡ names_of verdict }
+{
+    match verdict {
+        Ok(()) => [0, 0, 0, 0],
+        Err(failure) => failure.names(),
     }
 }

@@ -3,10 +3,9 @@ use Rattle.std.specs.Prelude.{◌≡◌, ℕ, cond, [], ◌∷◌, Ok, Err, Resu
 use Rattle.records.specs.declared.fault.Fault.{Fault}
 use Rattle.records.specs.Faults as faults
 use Rattle.policy.specs.declared.tables.Tables.{Tables}
-use Rattle.policy.specs.declared.verdict.Verdict.{Verdict}
 use Rattle.policy.specs.Questions.{Vetted}
 use Rattle.policy.specs.Search.{verdict}
-use Rattle.policy.specs.Verdicts.{number_of, names_of}
+use Rattle.policy.specs.Verdicts.{Verdict, number_of, names_of}
 use Rattle.report.specs.declared.line.PolicyLine.{PolicyLine}
 
 -- a fault with its place, or the verdict with the bytes read

@@ -1,7 +1,6 @@
 -- What rests on a roll: the law over whole runs, of the very events and answers that it prints. Assumes nothing.
 use Rattle.std.specs.Prelude.{◌≡◌, ℕ, ◌≤◌, List, ◌++◌, length, drop, Ok}
 use Rattle.policy.specs.declared.tables.Tables.{Tables}
-use Rattle.policy.specs.declared.verdict.Verdict.TheVariants.{Passed}
 use Rattle.policy.specs.Reading.{reading}
 use Rattle.policy.specs.Search.{verdict}
 use Rattle.monitor.specs.declared.answer.Answer.{Answer}
@@ -22,7 +21,7 @@ pub record OnRoll (ms : List Meaning) (t : Tables) (n : ℕ) (bytes text : List 
   pub lived : Lived ms t (whole (drop n bytes)).events answers state
 
 abbrev pub Rests : List Meaning → List ℕ → List ℕ → Type 0
-Rests ms bytes text = (t : Tables) (n : ℕ) → length bytes ≤ 65536 → reading bytes ≡ Ok (t, n) → verdict t ≡ Passed → OnRoll ms t n bytes text
+Rests ms bytes text = (t : Tables) (n : ℕ) → length bytes ≤ 65536 → reading bytes ≡ Ok (t, n) → verdict t ≡ Ok tt → OnRoll ms t n bytes text
 
 -- the same of the house pile; and nobody is authorised, even by inheritance, for two roles in static conflict
 pub record OnHouseRoll (t : Tables) (n : ℕ) (bytes text : List ℕ) : Type 0 where
@@ -30,4 +29,4 @@ pub record OnHouseRoll (t : Tables) (n : ℕ) (bytes text : List ℕ) : Type 0 w
   pub apart : StaticallyApart t roll.state
 
 abbrev pub HouseRests : List ℕ → List ℕ → Type 0
-HouseRests bytes text = (t : Tables) (n : ℕ) → length bytes ≤ 65536 → reading bytes ≡ Ok (t, n) → verdict t ≡ Passed → OnHouseRoll t n bytes text
+HouseRests bytes text = (t : Tables) (n : ℕ) → length bytes ≤ 65536 → reading bytes ≡ Ok (t, n) → verdict t ≡ Ok tt → OnHouseRoll t n bytes text

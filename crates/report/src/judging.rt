@@ -5,6 +5,7 @@ ghost use Rattle.report.specs.Judging.{line_of, held_after, RightLine};
 use crate::line::PolicyLine;
 use policy::checked::Checked;
 use policy::draft::Draft;
+use policy::verdict::{names, number};
 
 // Reads a policy at the front of the bytes and vets it; one that passes is held from now on.
 pub fn judge(held: &mut Checked, bytes: &[u8]) -> PolicyLine
@@ -18,9 +19,9 @@ pub fn judge(held: &mut Checked, bytes: &[u8]) -> PolicyLine
         Ok(figure) => {
             let verdict = held.check(&draft);
             PolicyLine {
-                number: verdict.number(),
+                number: number(verdict),
                 figure,
-                names: verdict.names(),
+                names: names(verdict),
             }
         }
         Err(fault) => PolicyLine {

@@ -2,7 +2,7 @@ use Rattle.std.proofs.Common.{Some, None, sym, refl}
 use Rattle.std.proofs.lemmas.Bool.{cond-true, cond-false}
 use Rattle.sets.specs.First.{first_of}
 use Rattle.sets.proofs.First.{none_more, found_here}
-use Rattle.policy.specs.declared.verdict.Verdict.TheVariants.{Cycle}
+use Rattle.policy.specs.declared.verdict.Failure.TheVariants.{Cycle}
 use Rattle.policy.specs.Search.{cycle_at}
 use Rattle.policy.proofs.questions.cycle_from.Goals as goal
 

@@ -2,8 +2,8 @@ use Rattle.std.proofs.Common.{ℕ, Some, None, Option, sym, refl}
 use Rattle.std.proofs.lemmas.Bool.{cond-true, cond-false}
 use Rattle.sets.specs.First.{first_of}
 use Rattle.sets.proofs.First.{none_more, none_end, found_here}
-use Rattle.policy.specs.declared.verdict.Verdict.{Verdict}
-use Rattle.policy.specs.declared.verdict.Verdict.TheVariants.{LostConflict}
+use Rattle.policy.specs.declared.verdict.Failure.{Failure}
+use Rattle.policy.specs.declared.verdict.Failure.TheVariants.{LostConflict}
 use Rattle.policy.specs.Search.{lost_conflict_at}
 use Rattle.policy.proofs.questions.find_lost_conflict.Goals as goal
 
@@ -27,14 +27,14 @@ loop-other-preserved c =
 pub loop-junior-preserved : goal.loop-junior-preserved
 loop-junior-preserved c =
     let n = c.args.draft.now.tables.sizes.roles in
-    let at : ℕ → ℕ → Option Verdict = lost_conflict_at c.args.seniority.now.rows c.args.draft.now.tables c.loop-senior.senior in
+    let at : ℕ → ℕ → Option Failure = lost_conflict_at c.args.seniority.now.rows c.args.draft.now.tables c.loop-senior.senior in
     let j = c.loop-junior.junior in
     none_more j (λ b. first_of n (at b)) c.loop-junior.invariant (none_end n (at j) c.loop-other.other c.loop-other-test.false c.loop-other.invariant)
 
 pub loop-senior-preserved : goal.loop-senior-preserved
 loop-senior-preserved c =
     let n = c.args.draft.now.tables.sizes.roles in
-    let at : ℕ → ℕ → ℕ → Option Verdict = lost_conflict_at c.args.seniority.now.rows c.args.draft.now.tables in
+    let at : ℕ → ℕ → ℕ → Option Failure = lost_conflict_at c.args.seniority.now.rows c.args.draft.now.tables in
     let i = c.loop-senior.senior in
     none_more i (λ a. first_of n (λ b. first_of n (at a b))) c.loop-senior.invariant
     (none_end n (λ b. first_of n (at i b)) c.loop-junior.junior c.loop-junior-test.false c.loop-junior.invariant)
@@ -42,7 +42,7 @@ loop-senior-preserved c =
 pub returns-then-is_lost_conflict : goal.returns-then-is_lost_conflict
 returns-then-is_lost_conflict c =
     let n = c.args.draft.now.tables.sizes.roles in
-    let at : ℕ → ℕ → ℕ → Option Verdict = lost_conflict_at c.args.seniority.now.rows c.args.draft.now.tables in
+    let at : ℕ → ℕ → ℕ → Option Failure = lost_conflict_at c.args.seniority.now.rows c.args.draft.now.tables in
     let a = c.loop-senior.senior in
     let b = c.loop-junior.junior in
     let x = LostConflict a b c.loop-other.other in

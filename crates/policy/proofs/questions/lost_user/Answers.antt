@@ -1,7 +1,7 @@
 use Rattle.std.proofs.Common.{not, ◌&&◌, Some, None}
 use Rattle.sets.specs.Sets.{has}
 use Rattle.sets.proofs.First.{told-first}
-use Rattle.policy.specs.declared.verdict.Verdict.TheVariants.{LostUsers}
+use Rattle.policy.specs.declared.verdict.Failure.TheVariants.{LostUsers}
 use Rattle.policy.specs.Entries.{users_pair}
 use Rattle.policy.proofs.questions.lost_user.Goals as goal
 
