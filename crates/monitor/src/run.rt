@@ -8,8 +8,9 @@ ghost use Rattle.monitor.specs.Scripts.{end_number, script_of};
 use crate::decide::Monitor;
 use crate::row::Row;
 use crate::rule::Rule;
-use records::event::take_event;
+use records::event::Event;
 use records::fault::Fault;
+use records::taking::take;
 
 // Why a run stops where no record is at fault.
 #[derive(Clone, Copy, PartialEq, Eq)]
@@ -67,7 +68,7 @@ fn fill<P: Rule>(
         if done.rows >= rows.len() {
             return Ok(Pause::NoRowLeft);
         }
-        let (event, tail) = take_event(rest, done.bytes)?;
+        let (event, tail) = take::<Event>(rest, done.bytes)?;
         rows[done.rows] = Row::of(event, monitor.decide(event));
         done.rows += 1;
         done.bytes += rest.len() - tail.len();

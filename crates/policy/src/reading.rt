@@ -9,8 +9,9 @@ use crate::rows::{add_pair, add_role, add_users, set_limit};
 use crate::tables::{
     Dependencies, Hierarchy, Limits, Requirements, RoleConflicts, Sizes, Tables, UserConflicts,
 };
-use records::entry::{Entry, take_entry};
+use records::entry::Entry;
 use records::fault::Fault;
+use records::taking::take;
 use sets::{RoleSet, UserSet};
 
 // The sizes of a bare draft.
@@ -221,7 +222,7 @@ fn read_tables(bytes: &[u8]) -> Result<(Tables, usize), Fault>
     let mut rest = bytes;
     let mut at = 0;
     loop {
-        let (entry, tail) = take_entry(rest, at)?;
+        let (entry, tail) = take::<Entry>(rest, at)?;
         apply(&mut tables, entry, at)?;
         at += rest.len() - tail.len();
         if is_end(entry) {

@@ -30,5 +30,6 @@ entry_of k (a ∷ b ∷ c ∷ d ∷ more) = None
 abbrev pub entry_taken : List ℕ → ℕ → Taken Entry
 entry_taken bytes at = taken Policy entry_of bytes at
 
+-- what `take` answers of entries
 abbrev pub EntryTaken : List ℕ → ℕ → Result (Entry × Bor (List ℕ)) Fault → Type 0
 EntryTaken bytes at r = Took (entry_taken bytes at) r

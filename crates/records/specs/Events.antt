@@ -36,5 +36,6 @@ kind_of (Deactivate s r) = 39
 abbrev pub event_taken : List ℕ → ℕ → Taken Event
 event_taken bytes at = taken Events event_of bytes at
 
+-- what `take` answers of events
 abbrev pub EventTaken : List ℕ → ℕ → Result (Event × Bor (List ℕ)) Fault → Type 0
 EventTaken bytes at r = Took (event_taken bytes at) r

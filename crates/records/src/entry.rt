@@ -1,9 +1,8 @@
-ghost use Rattle.std.specs.Prelude.{◌≡◌, ◌<◌, length, IfOk};
-ghost use Rattle.records.specs.Entries.{entry_of, EntryTaken};
+ghost use Rattle.records.specs.Entries.{entry_of};
+ghost use Rattle.records.specs.declared.kinds.Reader.TheVariants.{Policy};
 
-use crate::fault::Fault;
 use crate::kinds::Reader;
-use crate::parts::take_apart;
+use crate::taking::Record;
 
 // One record of a policy, by its kind; every number is as it stands in the bytes.
 #[derive(Clone, Copy, PartialEq, Eq)]
@@ -58,73 +57,40 @@ pub enum Entry {
     End,
 }
 
-// The entry of a kind and its body, or none where they are of no entry.
-fn decode(kind: u8, body: &[u8]) -> Option<Entry>
-    ensures { result ≡ entry_of kind body.now }
-{
-    match (kind, body) {
-        (1, [users, roles, sessions]) => Some(Entry::Sizes {
-            users: *users,
-            roles: *roles,
-            sessions: *sessions,
-        }),
-        (2, [senior, junior]) => Some(Entry::Inherits {
-            senior: *senior,
-            junior: *junior,
-        }),
-        (3, [first, second]) => Some(Entry::StaticPair {
-            first: *first,
-            second: *second,
-        }),
-        (4, [first, second]) => Some(Entry::DynamicPair {
-            first: *first,
-            second: *second,
-        }),
-        (5, [role, first, second]) => Some(Entry::ConflictingUsers {
-            role: *role,
-            first: *first,
-            second: *second,
-        }),
-        (6, [role, limit]) => Some(Entry::LimitOfRoleUsers {
-            role: *role,
-            limit: *limit,
-        }),
-        (7, [user, limit]) => Some(Entry::LimitOfUserRoles {
-            user: *user,
-            limit: *limit,
-        }),
-        (8, [user, limit]) => Some(Entry::LimitOfUserActive {
-            user: *user,
-            limit: *limit,
-        }),
-        (9, [role, limit]) => Some(Entry::LimitOfRoleSessions {
-            role: *role,
-            limit: *limit,
-        }),
-        (10, [condition, role, required]) => {
-            Some(Entry::Required {
-                condition: *condition,
-                role: *role,
-                required: *required,
-            })
-        }
-        (11, [role, needs]) => Some(Entry::Dependency {
-            role: *role,
-            needs: *needs,
-        }),
-        (12, []) => Some(Entry::End),
-        _ => None,
-    }
-}
+impl Record for Entry {
+    ghost READER = { Policy };
 
-// The policy's record at the front and the bytes after it; `at` is its place.
-pub fn take_entry(bytes: &[u8], at: usize) -> Result<(Entry, &[u8]), Fault>
-    ensures value { EntryTaken bytes.now at result }
-    ensures shorter { IfOk result (λ p. length p.1.now < length bytes.now) }
-{
-    let (kind, body, rest) = take_apart(bytes, at, Reader::Policy)?;
-    match decode(kind, body) {
-        Some(entry) => Ok((entry, rest)),
-        None => Err(Fault::UnknownKind { place: at }),
+    ghost decoded = { entry_of };
+
+    const READER: Reader = Reader::Policy;
+
+    fn decode(kind: u8, body: &[u8]) -> Option<Entry> {
+        match (kind, body) {
+            (1, &[users, roles, sessions]) => Some(Entry::Sizes {
+                users,
+                roles,
+                sessions,
+            }),
+            (2, &[senior, junior]) => Some(Entry::Inherits { senior, junior }),
+            (3, &[first, second]) => Some(Entry::StaticPair { first, second }),
+            (4, &[first, second]) => Some(Entry::DynamicPair { first, second }),
+            (5, &[role, first, second]) => Some(Entry::ConflictingUsers {
+                role,
+                first,
+                second,
+            }),
+            (6, &[role, limit]) => Some(Entry::LimitOfRoleUsers { role, limit }),
+            (7, &[user, limit]) => Some(Entry::LimitOfUserRoles { user, limit }),
+            (8, &[user, limit]) => Some(Entry::LimitOfUserActive { user, limit }),
+            (9, &[role, limit]) => Some(Entry::LimitOfRoleSessions { role, limit }),
+            (10, &[condition, role, required]) => Some(Entry::Required {
+                condition,
+                role,
+                required,
+            }),
+            (11, &[role, needs]) => Some(Entry::Dependency { role, needs }),
+            (12, []) => Some(Entry::End),
+            _ => None,
+        }
     }
 }

@@ -1,9 +1,9 @@
-ghost use Rattle.std.specs.Prelude.{◌≡◌, ◌<◌, length, IfOk};
-ghost use Rattle.records.specs.Events.{event_of, kind_of, EventTaken};
+ghost use Rattle.std.specs.Prelude.{◌≡◌};
+ghost use Rattle.records.specs.Events.{event_of, kind_of};
+ghost use Rattle.records.specs.declared.kinds.Reader.TheVariants.{Events};
 
-use crate::fault::Fault;
 use crate::kinds::Reader;
-use crate::parts::take_apart;
+use crate::taking::Record;
 
 // One event as it is asked for; every number is as it stands in the bytes.
 #[derive(Clone, Copy, PartialEq, Eq)]
@@ -36,46 +36,24 @@ impl Event {
     }
 }
 
-// The event of a kind and its body, or none where they are of no event.
-fn decode(kind: u8, body: &[u8]) -> Option<Event>
-    ensures { result ≡ event_of kind body.now }
-{
-    match (kind, body) {
-        (32, [user, role]) => Some(Event::Assign {
-            user: *user,
-            role: *role,
-        }),
-        (33, [user, role]) => Some(Event::Deassign {
-            user: *user,
-            role: *role,
-        }),
-        (34, [role]) => Some(Event::Enable { role: *role }),
-        (35, [role]) => Some(Event::Disable { role: *role }),
-        (36, [session, user]) => Some(Event::Open {
-            session: *session,
-            user: *user,
-        }),
-        (37, [session]) => Some(Event::Close { session: *session }),
-        (38, [session, role]) => Some(Event::Activate {
-            session: *session,
-            role: *role,
-        }),
-        (39, [session, role]) => Some(Event::Deactivate {
-            session: *session,
-            role: *role,
-        }),
-        _ => None,
-    }
-}
+impl Record for Event {
+    ghost READER = { Events };
 
-// The event at the front and the bytes after it; `at` is its place.
-pub fn take_event(bytes: &[u8], at: usize) -> Result<(Event, &[u8]), Fault>
-    ensures value { EventTaken bytes.now at result }
-    ensures shorter { IfOk result (λ p. length p.1.now < length bytes.now) }
-{
-    let (kind, body, rest) = take_apart(bytes, at, Reader::Events)?;
-    match decode(kind, body) {
-        Some(event) => Ok((event, rest)),
-        None => Err(Fault::UnknownKind { place: at }),
+    ghost decoded = { event_of };
+
+    const READER: Reader = Reader::Events;
+
+    fn decode(kind: u8, body: &[u8]) -> Option<Event> {
+        match (kind, body) {
+            (32, &[user, role]) => Some(Event::Assign { user, role }),
+            (33, &[user, role]) => Some(Event::Deassign { user, role }),
+            (34, &[role]) => Some(Event::Enable { role }),
+            (35, &[role]) => Some(Event::Disable { role }),
+            (36, &[session, user]) => Some(Event::Open { session, user }),
+            (37, &[session]) => Some(Event::Close { session }),
+            (38, &[session, role]) => Some(Event::Activate { session, role }),
+            (39, &[session, role]) => Some(Event::Deactivate { session, role }),
+            _ => None,
+        }
     }
 }

@@ -2,7 +2,8 @@ ghost use Rattle.std.specs.Prelude.{◌≡◌};
 ghost use Rattle.records.specs.Faults.{number_of, place_of};
 
 // Why a record is refused; `place` is the index of the record's first byte.
-#[derive(Clone, Copy, PartialEq, Eq)]
+// Kept: a fault is one enum of its own by the project's form; a struct of a kind and a place would be two types for it.
+#[derive(Clone, Copy, Debug, PartialEq, Eq)]
 pub enum Fault {
     UnknownKind { place: usize },
     CutBody { place: usize },

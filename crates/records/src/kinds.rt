@@ -14,44 +14,53 @@ impl Reader {
         ensures { result ≡ reads self kind }
     {
         match self {
-            Reader::Policy => 1 <= kind && kind <= 12,
-            Reader::Events => 32 <= kind && kind <= 39,
+            Reader::Policy => matches!(kind, 1..=12),
+            Reader::Events => matches!(kind, 32..=39),
         }
     }
 }
 
-// The entry of a kind that stands for no record.
-const UNKNOWN: u8 = 255;
-
-// The body length of each kind of record: the policy has kinds 1 to 12, the events 32 to 39.
+// The body length of each kind of record, and none where the kind is unknown: the policy has kinds 1 to 12, the events 32 to 39.
+// By reference, so that no call builds it.
 #[rattlefmt::skip]
-const BODY: [u8; 256] = [
-    255, 3, 2, 2, 2, 3, 2, 2, 2, 2, 3, 2, 0, 255, 255, 255,
-    255, 255, 255, 255, 255, 255, 255, 255, 255, 255, 255, 255, 255, 255, 255, 255,
-    2, 2, 1, 1, 2, 1, 2, 2, 255, 255, 255, 255, 255, 255, 255, 255,
-    255, 255, 255, 255, 255, 255, 255, 255, 255, 255, 255, 255, 255, 255, 255, 255,
-    255, 255, 255, 255, 255, 255, 255, 255, 255, 255, 255, 255, 255, 255, 255, 255,
-    255, 255, 255, 255, 255, 255, 255, 255, 255, 255, 255, 255, 255, 255, 255, 255,
-    255, 255, 255, 255, 255, 255, 255, 255, 255, 255, 255, 255, 255, 255, 255, 255,
-    255, 255, 255, 255, 255, 255, 255, 255, 255, 255, 255, 255, 255, 255, 255, 255,
-    255, 255, 255, 255, 255, 255, 255, 255, 255, 255, 255, 255, 255, 255, 255, 255,
-    255, 255, 255, 255, 255, 255, 255, 255, 255, 255, 255, 255, 255, 255, 255, 255,
-    255, 255, 255, 255, 255, 255, 255, 255, 255, 255, 255, 255, 255, 255, 255, 255,
-    255, 255, 255, 255, 255, 255, 255, 255, 255, 255, 255, 255, 255, 255, 255, 255,
-    255, 255, 255, 255, 255, 255, 255, 255, 255, 255, 255, 255, 255, 255, 255, 255,
-    255, 255, 255, 255, 255, 255, 255, 255, 255, 255, 255, 255, 255, 255, 255, 255,
-    255, 255, 255, 255, 255, 255, 255, 255, 255, 255, 255, 255, 255, 255, 255, 255,
-    255, 255, 255, 255, 255, 255, 255, 255, 255, 255, 255, 255, 255, 255, 255, 255,
+const BODY: &[Option<u8>; 256] = &[
+    None, Some(3), Some(2), Some(2), Some(2), Some(3), Some(2), Some(2),
+    Some(2), Some(2), Some(3), Some(2), Some(0), None, None, None,
+    None, None, None, None, None, None, None, None,
+    None, None, None, None, None, None, None, None,
+    Some(2), Some(2), Some(1), Some(1), Some(2), Some(1), Some(2), Some(2),
+    None, None, None, None, None, None, None, None,
+    None, None, None, None, None, None, None, None,
+    None, None, None, None, None, None, None, None,
+    None, None, None, None, None, None, None, None,
+    None, None, None, None, None, None, None, None,
+    None, None, None, None, None, None, None, None,
+    None, None, None, None, None, None, None, None,
+    None, None, None, None, None, None, None, None,
+    None, None, None, None, None, None, None, None,
+    None, None, None, None, None, None, None, None,
+    None, None, None, None, None, None, None, None,
+    None, None, None, None, None, None, None, None,
+    None, None, None, None, None, None, None, None,
+    None, None, None, None, None, None, None, None,
+    None, None, None, None, None, None, None, None,
+    None, None, None, None, None, None, None, None,
+    None, None, None, None, None, None, None, None,
+    None, None, None, None, None, None, None, None,
+    None, None, None, None, None, None, None, None,
+    None, None, None, None, None, None, None, None,
+    None, None, None, None, None, None, None, None,
+    None, None, None, None, None, None, None, None,
+    None, None, None, None, None, None, None, None,
+    None, None, None, None, None, None, None, None,
+    None, None, None, None, None, None, None, None,
+    None, None, None, None, None, None, None, None,
+    None, None, None, None, None, None, None, None,
 ];
 
 // The length of the body of a record of this kind, or none where the kind is unknown.
 pub fn body_length(kind: u8) -> Option<u8>
     ensures { result ≡ body_length kind }
 {
-    let length = BODY[kind as usize];
-    if length == UNKNOWN {
-        None
-    } else {
-        Some(length)
-    }
+    BODY[kind as usize]
 }

@@ -5,3 +5,4 @@ pub mod event;
 pub mod fault;
 pub mod kinds;
 pub mod parts;
+pub mod taking;

@@ -15,13 +15,9 @@ pub fn take_apart(bytes: &[u8], at: usize, reader: Reader) -> Result<(u8, &[u8],
     if !reader.takes(*kind) {
         return Err(Fault::UnknownKind { place: at });
     }
-    let Some(length) = body_length(*kind) else {
-        return Err(Fault::UnknownKind { place: at });
-    };
-    let length = length as usize;
-    if after.len() < length {
-        return Err(Fault::CutBody { place: at });
-    }
-    let (body, rest) = after.split_at(length);
+    let length = body_length(*kind).ok_or(Fault::UnknownKind { place: at })?;
+    let (body, rest) = after
+        .split_at_checked(length as usize)
+        .ok_or(Fault::CutBody { place: at })?;
     Ok((*kind, body, rest))
 }
