@@ -1,7 +1,6 @@
 // Cardinality: limits on who is authorised for what, and on what is active.
 ghost use Rattle.std.specs.Prelude.{◌≡◌, ◌<◌, [], ◌∷◌, None, slice_index_or};
 ghost use Rattle.monitor.specs.Cells.{owner};
-ghost use Rattle.monitor.specs.Possible.{Possible};
 ghost use Rattle.families.specs.Cardinality.{limit_of_users, limit_of_roles, limit_of_active, limit_of_sessions, within, users_of, roles_of, active_of, sessions_of};
 ghost use Rattle.families.specs.Cardinality.{over_users, over_assigned, over_activated, over_by, breach_number, breach_subject, cardinality};
 ghost use Rattle.families.specs.Family.{Exact};
@@ -9,10 +8,9 @@ ghost use Rattle.families.specs.Limits.{cardinality_law};
 ghost use Rattle.std.proofs.Common.{rules};
 
 use monitor::answer::Reason;
+use monitor::asked::Asked;
 use monitor::cells::{Cells, Session, Whose};
-use monitor::effect::moved;
 use monitor::rule::Rule;
-use monitor::state::State;
 use monitor::views::{active_among, using_among};
 use policy::approved::Approved;
 use records::event::Event;
@@ -175,15 +173,14 @@ fn over_activated(policy: &Approved, cells: &Cells, user: u8, role: u8) -> Optio
 }
 
 // The first question that the event fails, put to the cells that it makes.
-fn over_by(policy: &Approved, state: &State, event: Event) -> Option<Breach>
-    requires { Possible policy.now.draft.tables state.now.cells event }
-    ensures { result ≡ over_by policy.now.draft.tables state.now.cells event }
+fn over_by(asked: Asked) -> Option<Breach>
+    ensures { result ≡ over_by asked.entry.policy.now.draft.tables asked.entry.state.now.cells asked.entry.event }
 {
-    match event {
-        Event::Assign { user, .. } => over_assigned(policy, &moved(policy, state, event), user),
+    match asked.event {
+        Event::Assign { user, .. } => over_assigned(asked.policy, &asked.moved(), user),
         Event::Activate { session, role } => {
-            let user = state.session(session).owner();
-            over_activated(policy, &moved(policy, state, event), user, role)
+            let user = asked.state.session(session).owner();
+            over_activated(asked.policy, &asked.moved(), user, role)
         }
         _ => None,
     }
@@ -199,8 +196,8 @@ impl Rule for Cardinality {
 
     ghost lawful = { λ x. (cardinality_law, tt) };
 
-    fn consult(&self, policy: &Approved, state: &State, event: Event) -> Result<(), Reason> {
-        match over_by(policy, state, event) {
+    fn consult(&self, asked: Asked) -> Result<(), Reason> {
+        match over_by(asked) {
             Some(breach) => Err(Reason {
                 number: breach.number(),
                 subject: breach.subject(),

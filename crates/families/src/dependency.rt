@@ -11,6 +11,7 @@ ghost use Rattle.families.specs.Leaning.{dependency_law};
 ghost use Rattle.std.proofs.Common.{rules};
 
 use monitor::answer::Reason;
+use monitor::asked::Asked;
 use monitor::cells::Session;
 use monitor::rule::Rule;
 use monitor::state::State;
@@ -65,9 +66,14 @@ fn unmet_after(policy: &Approved, state: &State, session: u8, changed: Session) 
 }
 
 // The question put to the state after the event; a close is judged once all its roles have ended together.
-fn unmet_by(policy: &Approved, state: &State, event: Event) -> Option<Unmet>
-    ensures { result ≡ unmet_by policy.now.draft.tables state.now.cells event }
+fn unmet_by(asked: Asked) -> Option<Unmet>
+    ensures { result ≡ unmet_by asked.entry.policy.now.draft.tables asked.entry.state.now.cells asked.entry.event }
 {
+    let Asked {
+        policy,
+        state,
+        event,
+    } = asked;
     match event {
         Event::Close { session } => unmet_after(policy, state, session, Session::Closed),
         Event::Activate { session, role } => unmet_after(
@@ -96,8 +102,8 @@ impl Rule for Dependency {
 
     ghost lawful = { λ x. (dependency_law, tt) };
 
-    fn consult(&self, policy: &Approved, state: &State, event: Event) -> Result<(), Reason> {
-        match unmet_by(policy, state, event) {
+    fn consult(&self, asked: Asked) -> Result<(), Reason> {
+        match unmet_by(asked) {
             None => Ok(()),
             Some(unmet) => Err(Reason {
                 number: unmet.number(),

@@ -6,7 +6,6 @@ ghost use Rattle.monitor.specs.Cells.{blank};
 ghost use Rattle.monitor.specs.Ledgers.{answer_to, state_after, Adds};
 ghost use Rattle.monitor.specs.Lived.{Lived};
 ghost use Rattle.monitor.specs.Meaning.{ruling};
-ghost use Rattle.monitor.specs.Possible.{Possible};
 ghost use Rattle.families.specs.House.{house_rules, KeepsApart, SeparatesAt};
 ghost use Rattle.families.specs.Separation.{separation, StaticallyApart};
 
@@ -15,11 +14,10 @@ use crate::dependency::Dependency;
 use crate::precedence::Precedence;
 use crate::separation::Separation;
 use monitor::answer::{Answer, Reason};
+use monitor::asked::Asked;
 use monitor::decide::Monitor;
 use monitor::pair::Pair;
 use monitor::rule::Rule;
-use monitor::state::State;
-use policy::approved::Approved;
 use policy::checked::Checked;
 use records::event::Event;
 
@@ -43,11 +41,10 @@ pub fn house() -> House
 }
 
 // What the house pile says of a possible event.
-pub fn consult_house(policy: &Approved, state: &State, event: Event) -> Result<(), Reason>
-    requires { Possible policy.now.draft.tables state.now.cells event }
-    ensures { result ≡ ruling house_rules policy.now.draft.tables state.now.cells event }
+pub fn consult_house(asked: Asked) -> Result<(), Reason>
+    ensures { result ≡ ruling house_rules asked.entry.policy.now.draft.tables asked.entry.state.now.cells asked.entry.event }
 {
-    house().consult(policy, state, event)
+    house().consult(asked)
 }
 
 // A monitor with the house pile and a new state. It uses the checked policy up.

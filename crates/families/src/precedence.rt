@@ -8,10 +8,10 @@ ghost use Rattle.std.proofs.Common.{rules};
 
 use crate::rows::row_at;
 use monitor::answer::Reason;
+use monitor::asked::Asked;
 use monitor::cells::{Session, Whose};
 use monitor::rule::Rule;
 use monitor::state::State;
-use policy::approved::Approved;
 use policy::tables::Tables;
 use records::event::Event;
 use sets::RoleSet;
@@ -129,10 +129,12 @@ fn activate_lack(tables: &Tables, state: &State, role: u8, session: Session) -> 
 }
 
 // The first question that the event fails, if it fails one.
-fn lack_by(tables: &Tables, state: &State, event: Event) -> Option<Lack>
-    ensures { result ≡ lacking_by tables.now state.now.cells event }
+fn lack_by(asked: Asked) -> Option<Lack>
+    ensures { result ≡ lacking_by asked.entry.policy.now.draft.tables asked.entry.state.now.cells asked.entry.event }
 {
-    match event {
+    let tables = &asked.policy.draft.tables;
+    let state = asked.state;
+    match asked.event {
         Event::Enable { role } => enable_lack(tables, state, role),
         Event::Assign { user, role } => assign_lack(tables, state, user, role),
         Event::Activate { session, role } => {
@@ -152,8 +154,8 @@ impl Rule for Precedence {
 
     ghost lawful = { λ x. (precedence_law, tt) };
 
-    fn consult(&self, policy: &Approved, state: &State, event: Event) -> Result<(), Reason> {
-        match lack_by(&policy.draft.tables, state, event) {
+    fn consult(&self, asked: Asked) -> Result<(), Reason> {
+        match lack_by(asked) {
             None => Ok(()),
             Some(lack) => Err(Reason {
                 number: lack.number(),

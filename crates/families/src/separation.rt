@@ -5,7 +5,6 @@ ghost use Rattle.sets.specs.Sets.{has};
 ghost use Rattle.policy.specs.Entries.{no_users};
 ghost use Rattle.monitor.specs.declared.cells.Whose.TheVariants.{User};
 ghost use Rattle.monitor.specs.Cells.{active, counts};
-ghost use Rattle.monitor.specs.Possible.{Possible};
 ghost use Rattle.families.specs.Family.{Exact};
 ghost use Rattle.families.specs.Separation.{active_for, static_clash, dynamic_clash, user_clash, clash_by, clash_number, clash_subject, separation};
 ghost use Rattle.families.specs.declared.separation.Clash.TheVariants.{StaticRole, DynamicRole, ConflictingUser};
@@ -14,6 +13,7 @@ ghost use Rattle.std.proofs.Common.{rules};
 
 use crate::rows::row_at;
 use monitor::answer::Reason;
+use monitor::asked::Asked;
 use monitor::cells::{Session, Whose};
 use monitor::rule::Rule;
 use monitor::state::State;
@@ -129,10 +129,14 @@ fn user_clash(policy: &Approved, state: &State, owner: u8, role: u8) -> Option<C
 }
 
 // The first question that the event fails.
-fn clash_by(policy: &Approved, state: &State, event: Event) -> Option<Clash>
-    requires { Possible policy.now.draft.tables state.now.cells event }
-    ensures { result ≡ clash_by policy.now.draft.tables state.now.cells event }
+fn clash_by(asked: Asked) -> Option<Clash>
+    ensures { result ≡ clash_by asked.entry.policy.now.draft.tables asked.entry.state.now.cells asked.entry.event }
 {
+    let Asked {
+        policy,
+        state,
+        event,
+    } = asked;
     match event {
         Event::Assign { user, role } => assign_clash(policy, state, user, role),
         Event::Activate { session, role } => {
@@ -156,8 +160,8 @@ impl Rule for Separation {
 
     ghost lawful = { λ x. (separation_law, tt) };
 
-    fn consult(&self, policy: &Approved, state: &State, event: Event) -> Result<(), Reason> {
-        match clash_by(policy, state, event) {
+    fn consult(&self, asked: Asked) -> Result<(), Reason> {
+        match clash_by(asked) {
             None => Ok(()),
             Some(clash) => Err(Reason {
                 number: clash.number(),

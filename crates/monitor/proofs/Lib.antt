@@ -1,6 +1,7 @@
 pub mod Begun
 pub mod Entitled
 pub mod Ledgers
+pub mod Situations
 pub mod Sessions
 pub mod Steps
 pub mod Counting

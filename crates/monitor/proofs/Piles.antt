@@ -1,15 +1,13 @@
 -- What two piles rule together.
 use Rattle.std.specs.Prelude.{◌≡◌, ℕ, suc, ◌+◌, min, true, false, cond, List, [], ◌∷◌, ◌++◌, length, Ok, Err, refl}
 use Rattle.std.proofs.Common.{sym, ap, ◌∙◌, arith}
-use Rattle.std.proofs.lemmas.List.{length-append}
+use Rattle.std.specs.Result.{MatchResult, IsErrAnd}
+use Rattle.std.proofs.lemmas.Result.{err_from_is_err_and}
 use Rattle.records.specs.declared.event.Event.{Event}
 use Rattle.policy.specs.declared.tables.Tables.{Tables}
 use Rattle.monitor.specs.declared.answer.Reason.{Reason}
 use Rattle.monitor.specs.declared.cells.Cells.{Cells}
-use Rattle.monitor.specs.Meaning.{Meaning, Ruling, ruling, deeper, own_reason}
-
-pub places_append : (xs ys : List Meaning) (a b : ℕ) → a ≡ min 255 (length xs) → b ≡ min 255 (length ys) → min 255 (a + b) ≡ min 255 (length (xs ++ ys))
-places_append xs ys a b p q = simp length-append (omega arith)
+use Rattle.monitor.specs.Meaning.{Meaning, Ruling, ruling, lowered, deeper, own_reason}
 
 -- the upper ruling where it refuses, else the lower
 abbrev first_refusal : Ruling → Ruling → Ruling
@@ -23,6 +21,12 @@ deeper-deeper n m k h (Err r) = ap {B = Ruling} (λ (p : ℕ). Err (record { num
 deeper-first : (n : ℕ) (a b : Ruling) → deeper n (first_refusal a b) ≡ first_refusal (deeper n a) (deeper n b)
 deeper-first n (Ok x) b = refl
 deeper-first n (Err r) b = refl
+
+-- a ruling whose reason is mapped to one further down
+pub mapped_deeper : (n : ℕ) (o v : Ruling) (P : Reason → Reason → Type 0) → ((r z : Reason) → P r z → z ≡ lowered n r)
+    → MatchResult o (λ x. v ≡ Ok x) (λ r. IsErrAnd v (P r)) → v ≡ deeper n o
+mapped_deeper n (Ok x) v P f h = h
+mapped_deeper n (Err r) v P f h = let p = err_from_is_err_and v h in p.1 ∙ ap {B = Ruling} (λ (z : Reason). Err z) (f r p.0 p.2)
 
 module _ (t : Tables) (c : Cells) (e : Event) where
   -- a ruling's place is at most 255

@@ -2,6 +2,7 @@
 use Rattle.std.specs.Prelude.{◌≤◌, cond, Ok, Err, Result}
 use Rattle.records.specs.declared.event.Event.{Event}
 use Rattle.policy.specs.declared.tables.Tables.{Tables}
+use Rattle.monitor.specs.declared.answer.Reason.{Reason}
 use Rattle.monitor.specs.declared.cells.Cells.{Cells}
 use Rattle.monitor.specs.declared.own.Objection.{Objection}
 use Rattle.monitor.specs.Meaning.{Meaning}
@@ -9,6 +10,10 @@ use Rattle.monitor.specs.Meaning.{Meaning}
 -- every number that it names is one of an own rule
 abbrev pub Confined : Meaning → Type 0
 Confined m = (t : Tables) (c : Cells) (e : Event) → (100 ≤ m.number t c e) × (m.number t c e ≤ 199)
+
+-- the reason that a pile of the rule alone names
+abbrev pub reason_for : Objection → Reason
+reason_for o = record { number = o.number; subject = o.subject; place = 1 }
 
 -- what it answers
 abbrev pub objection : Meaning → Tables → Cells → Event → Result (Unit {0}) Objection

@@ -5,10 +5,10 @@ ghost use Rattle.monitor.specs.Ledgers.{answer_to, state_after, Adds};
 ghost use Rattle.monitor.specs.Lived.{Lived};
 
 use crate::answer::Answer;
-use crate::effect::ending;
+use crate::asked::Situation;
 use crate::ledger::Ledger;
-use crate::possible::hindered;
 use crate::rule::Rule;
+use crate::state::State;
 use policy::checked::Checked;
 use records::event::Event;
 
@@ -40,17 +40,26 @@ impl<P: Rule> Monitor<P> {
         ensures pile { self.new.pile ≡ self.old.pile }
         ensures law { Adds (P.rules self.old.pile) self.old.ledger (event ∷ []) (result ∷ []) self.new.ledger.state.cells }
     {
-        let policy = self.ledger.policy;
-        let state = self.ledger.state;
-        if let Some(hindrance) = hindered(&policy, &state, event) {
-            return Answer::Hindered { hindrance };
-        }
-        match self.pile.consult(&policy, &state, event) {
+        let Ledger { policy, state } = self.ledger;
+        let situation = Situation {
+            policy: &policy,
+            state: &state,
+        };
+        let asked = match situation.ask(event) {
+            Err(hindrance) => return Answer::Hindered { hindrance },
+            Ok(asked) => asked,
+        };
+        match self.pile.consult(asked) {
             Err(reason) => Answer::Refused { reason },
             Ok(()) => {
-                self.ledger.advance(event);
+                self.ledger = Ledger {
+                    policy,
+                    state: State {
+                        cells: asked.moved(),
+                    },
+                };
                 Answer::Granted {
-                    ended: ending(&state, event),
+                    ended: state.ending(event),
                 }
             }
         }

@@ -3,13 +3,12 @@ ghost use Rattle.std.specs.Prelude.{◌≡◌, ◌<◌, true};
 ghost use Rattle.monitor.specs.Authority.{Authorised};
 ghost use Rattle.monitor.specs.Cells.{blank, is_authorised};
 ghost use Rattle.monitor.specs.Effect.{next, ended, activated, deactivated, put_assigned};
-ghost use Rattle.monitor.specs.Possible.{Possible};
 
+use crate::asked::Asked;
 use crate::cells::{Cells, Session};
 use crate::ledger::Ledger;
 use crate::possible::authority;
 use crate::state::State;
-use policy::approved::Approved;
 use policy::checked::Checked;
 use records::event::Event;
 use sets::RoleSet;
@@ -42,62 +41,50 @@ impl Session {
     }
 }
 
-// The cells with other roles assigned to the user, who is authorised for what they give.
-fn assigned(policy: &Approved, cells: &Cells, user: u8, roles: RoleSet) -> Cells
-    requires { user < 64 }
-    ensures { result ≡ put_assigned policy.now.draft.tables cells.now user roles }
-{
-    let mut next = *cells;
-    next.assigned[user as usize] = roles;
-    next.authorised[user as usize] = authority(policy, roles);
-    next
-}
-
-// The cells that a possible event makes.
-pub fn moved(policy: &Approved, state: &State, event: Event) -> Cells
-    requires { Possible policy.now.draft.tables state.now.cells event }
-    ensures { result ≡ next policy.now.draft.tables state.now.cells event }
-{
-    let mut cells = state.cells;
-    match event {
-        Event::Assign { user, role } => return assigned(
-            policy,
-            &cells,
-            user,
-            state.assigned(user).with(role),
-        ),
-        Event::Deassign { user, role } => return assigned(
-            policy,
-            &cells,
-            user,
-            state.assigned(user).without(role),
-        ),
-        Event::Enable { role } => cells.enabled = cells.enabled.with(role),
-        Event::Disable { role } => cells.enabled = cells.enabled.without(role),
-        Event::Open { session, user } => {
-            cells.sessions[session as usize] = Session::Open {
-                owner: user,
-                active: RoleSet::empty(),
-            };
-        }
-        Event::Close { session } => cells.sessions[session as usize] = Session::Closed,
-        Event::Activate { session, role } => {
-            cells.sessions[session as usize] = cells.sessions[session as usize].activated(role);
-        }
-        Event::Deactivate { session, role } => {
-            cells.sessions[session as usize] = cells.sessions[session as usize].deactivated(role);
-        }
+impl<'a> Asked<'a> {
+    // The cells with other roles assigned to the user, who is authorised for what they give.
+    fn assigned(self, user: u8, roles: RoleSet) -> Cells
+        requires { user < 64 }
+        ensures { result ≡ put_assigned self.entry.policy.now.draft.tables self.entry.state.now.cells user roles }
+    {
+        let mut next = self.state.cells;
+        next.assigned[user as usize] = roles;
+        next.authorised[user as usize] = authority(self.policy, roles);
+        next
     }
-    cells
-}
 
-// The roles that the event ends and lists.
-pub fn ending(state: &State, event: Event) -> RoleSet
-    ensures { result ≡ record { bits = ended state.now.cells event } }
-{
-    match event {
-        Event::Close { session } => state.session(session).active(),
-        _ => RoleSet { bits: 0 },
+    // The cells that the event makes.
+    pub fn moved(self) -> Cells
+        ensures { result ≡ next self.entry.policy.now.draft.tables self.entry.state.now.cells self.entry.event }
+    {
+        let state = self.state;
+        let mut cells = state.cells;
+        match self.event {
+            Event::Assign { user, role } => {
+                return self.assigned(user, state.assigned(user).with(role))
+            }
+            Event::Deassign { user, role } => {
+                return self.assigned(user, state.assigned(user).without(role))
+            }
+            Event::Enable { role } => cells.enabled = cells.enabled.with(role),
+            Event::Disable { role } => cells.enabled = cells.enabled.without(role),
+            Event::Open { session, user } => {
+                cells.sessions[session as usize] = Session::Open {
+                    owner: user,
+                    active: RoleSet::empty(),
+                };
+            }
+            Event::Close { session } => cells.sessions[session as usize] = Session::Closed,
+            Event::Activate { session, role } => {
+                cells.sessions[session as usize] = cells.sessions[session as usize].activated(role);
+            }
+            Event::Deactivate { session, role } => {
+                cells.sessions[session as usize] = cells.sessions[session as usize].deactivated(
+                    role,
+                );
+            }
+        }
+        cells
     }
 }
 
@@ -122,6 +109,16 @@ impl State {
             cells: blank_cells(),
         }
     }
+
+    // The roles that the event ends and lists, where it is granted in this state.
+    pub fn ending(&self, event: Event) -> RoleSet
+        ensures { result ≡ record { bits = ended self.now.cells event } }
+    {
+        match event {
+            Event::Close { session } => self.session(session).active(),
+            _ => RoleSet::empty(),
+        }
+    }
 }
 
 impl Ledger {
@@ -143,20 +140,5 @@ impl Ledger {
         ensures senior { Authorised self.now.policy.draft.tables self.now.state.cells user role → result ≡ true }
     {
         self.state.authorised(user).contains(role)
-    }
-
-    // Does a possible event: the state is written whole, the policy stays.
-    pub(crate) fn advance(&mut self, event: Event)
-        requires { Possible self.old.policy.draft.tables self.old.state.cells event }
-        ensures state { self.new.state.cells ≡ next self.old.policy.draft.tables self.old.state.cells event }
-        ensures same { self.new.policy ≡ self.old.policy }
-    {
-        let policy = self.policy;
-        let state = self.state;
-        let cells = moved(&policy, &state, event);
-        *self = Ledger {
-            policy,
-            state: State { cells },
-        };
     }
 }

@@ -2,6 +2,7 @@
 #![tactic(auto)]
 
 pub mod answer;
+pub mod asked;
 pub mod cells;
 pub mod decide;
 pub mod effect;

@@ -1,15 +1,12 @@
 // A rule that an archive brings, confined to the numbers 100 to 199.
 ghost use Rattle.std.specs.Prelude.{◌≡◌, [], ◌∷◌};
 ghost use Rattle.monitor.specs.Meaning.{Meaning, Law};
-ghost use Rattle.monitor.specs.Own.{Confined, objection};
-ghost use Rattle.monitor.specs.Possible.{Possible};
+ghost use Rattle.monitor.specs.Own.{Confined, objection, reason_for};
 ghost use Rattle.std.proofs.Common.{rules};
 
 use crate::answer::Reason;
+use crate::asked::Asked;
 use crate::rule::Rule;
-use crate::state::State;
-use policy::approved::Approved;
-use records::event::Event;
 
 // Why an own rule does not admit an event.
 #[derive(Clone, Copy)]
@@ -18,14 +15,26 @@ pub struct Objection {
     pub subject: u8,
 }
 
+// The rule is a pile of one, and so the topmost there.
+impl From<Objection> for Reason {
+    ghost from_gives = { λ o r. r ≡ reason_for o };
+
+    fn from(objection: Objection) -> Reason {
+        Reason {
+            number: objection.number,
+            subject: objection.subject,
+            place: 1,
+        }
+    }
+}
+
 pub trait OwnRule {
     // What the rule means.
     ghost meaning: { Self → Meaning };
 
     // Admits the possible event, or says why not.
-    fn object(&self, policy: &Approved, state: &State, event: Event) -> Result<(), Objection>
-        requires { Possible policy.now.draft.tables state.now.cells event }
-        ensures { result ≡ objection (meaning self.now) policy.now.draft.tables state.now.cells event };
+    fn object(&self, asked: Asked) -> Result<(), Objection>
+        ensures { result ≡ objection (meaning self.now) asked.entry.policy.now.draft.tables asked.entry.state.now.cells asked.entry.event };
 
     // It keeps the laws of a rule.
     ghost lawful: { (x : Self) → Law (meaning x) };
@@ -47,15 +56,8 @@ impl<R: OwnRule> Rule for Own<R> {
 
     ghost lawful = { Prim.search rules };
 
-    fn consult(&self, policy: &Approved, state: &State, event: Event) -> Result<(), Reason> {
-        match self.rule.object(policy, state, event) {
-            Ok(()) => Ok(()),
-            Err(objection) => Err(Reason {
-                number: objection.number,
-                subject: objection.subject,
-                place: 1,
-            }),
-        }
+    fn consult(&self, asked: Asked) -> Result<(), Reason> {
+        Ok(self.rule.object(asked)?)
     }
 
     fn places(&self) -> u8 {

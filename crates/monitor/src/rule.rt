@@ -1,21 +1,17 @@
 // What a rule is: the one consultation that families, piles and an archive's own rules answer.
 ghost use Rattle.std.specs.Prelude.{◌≡◌, ◌≤◌, min, List, length};
 ghost use Rattle.monitor.specs.Meaning.{Meaning, Every, Law, ruling};
-ghost use Rattle.monitor.specs.Possible.{Possible};
 
 use crate::answer::Reason;
-use crate::state::State;
-use policy::approved::Approved;
-use records::event::Event;
+use crate::asked::Asked;
 
 pub trait Rule {
     // The rules of the pile, from the top.
     ghost rules: { Self → List Meaning };
 
     // Admits the possible event, or names the topmost rule that does not.
-    fn consult(&self, policy: &Approved, state: &State, event: Event) -> Result<(), Reason>
-        requires { Possible policy.now.draft.tables state.now.cells event }
-        ensures { result ≡ ruling (rules self.now) policy.now.draft.tables state.now.cells event };
+    fn consult(&self, asked: Asked) -> Result<(), Reason>
+        ensures { result ≡ ruling (rules self.now) asked.entry.policy.now.draft.tables asked.entry.state.now.cells asked.entry.event };
 
     // How many rules there are, 255 at most.
     fn places(&self) -> u8

@@ -4,10 +4,9 @@ ghost use Rattle.own.specs.Once.{once_per_user, admitted};
 ghost use Rattle.std.proofs.Common.{arith, subst};
 ghost use Rattle.own.specs.Keeps.{blank_once, next_once};
 
+use monitor::asked::Asked;
 use monitor::cells::{Session, Whose};
 use monitor::own::{Objection, OwnRule};
-use monitor::state::State;
-use policy::approved::Approved;
 use records::event::Event;
 
 #[derive(Clone, Copy, Default)]
@@ -27,15 +26,15 @@ impl OwnRule for OncePerUser {
 
     ghost confined = { λ x t c e. (omega arith, omega arith) };
 
-    fn object(&self, policy: &Approved, state: &State, event: Event) -> Result<(), Objection> {
-        let Event::Activate { session, role } = event else {
+    fn object(&self, asked: Asked) -> Result<(), Objection> {
+        let Event::Activate { session, role } = asked.event else {
             return Ok(());
         };
         // a possible activation is of an open session
-        let Session::Open { owner, .. } = state.session(session) else {
+        let Session::Open { owner, .. } = asked.state.session(session) else {
             return Ok(());
         };
-        let used = state.active_in(Whose::User { user: owner });
+        let used = asked.state.active_in(Whose::User { user: owner });
         if role == self.role && used.contains(role) {
             Err(Objection {
                 number: 100,

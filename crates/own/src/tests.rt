@@ -5,11 +5,9 @@ ghost use Rattle.std.proofs.Common.{rules};
 
 use crate::piles::{Fourfold, One, Two, Twofold};
 use monitor::answer::Reason;
+use monitor::asked::Asked;
 use monitor::own::{Objection, Own, OwnRule};
 use monitor::rule::Rule;
-use monitor::state::State;
-use policy::approved::Approved;
-use records::event::Event;
 use std::process::Abort;
 
 // A rule that admits every event, and holds nothing.
@@ -23,7 +21,7 @@ impl OwnRule for Lenient {
 
     ghost confined = { Prim.search rules };
 
-    fn object(&self, policy: &Approved, state: &State, event: Event) -> Result<(), Objection> {
+    fn object(&self, asked: Asked) -> Result<(), Objection> {
         Ok(())
     }
 }
@@ -41,8 +39,8 @@ impl Rule for SixteenLenient {
 
     ghost lawful = { Prim.search rules };
 
-    fn consult(&self, policy: &Approved, state: &State, event: Event) -> Result<(), Reason> {
-        self.pile.consult(policy, state, event)
+    fn consult(&self, asked: Asked) -> Result<(), Reason> {
+        self.pile.consult(asked)
     }
 
     fn places(&self) -> u8 {

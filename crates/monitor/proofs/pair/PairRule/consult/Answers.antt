@@ -1,23 +1,17 @@
-use Rattle.std.proofs.Common.{Ok, Err, refl, ap, ◌∙◌}
-use Rattle.monitor.specs.Meaning.{Ruling}
-use Rattle.monitor.specs.declared.answer.Reason.{Reason}
-use Rattle.monitor.proofs.Piles.{ruling_upper, ruling_lower}
+use Rattle.std.proofs.Common.{◌∙◌, rules}
+use Rattle.std.proofs.lemmas.Result.{err_from_is_err_and}
+use Rattle.monitor.proofs.Piles.{ruling_upper, ruling_lower, mapped_deeper}
 use Rattle.monitor.proofs.pair.PairRule.consult.Goals as goal
 
-pub returns-in-Err : goal.returns-in-Err
-returns-in-Err g c =
-    let a = c.args in
-    ruling_upper a.policy.now.draft.tables a.state.now.cells a.event (g.U.Rule.rules a.self.now.upper) (g.L.Rule.rules a.self.now.lower) _ c.in-Err.ensures
+pub returns-in_err-consult : goal.returns-in_err-consult
+returns-in_err-consult g c =
+    let a = c.args.asked in
+    let p = err_from_is_err_and c.from_residual.result c.from_residual.ensures.1 in
+    rw (p.1, p.2) (ruling_upper a.policy.now.draft.tables a.state.now.cells a.event (g.U.Rule.rules c.args.self.now.upper) (g.L.Rule.rules c.args.self.now.lower) _ c.in_err-consult.ensures)
 
-pub returns-in-Err-consult : goal.returns-in-Err-consult
-returns-in-Err-consult g c =
-    let a = c.args in
-    ap {B = Ruling} (λ (r : Reason). Err r) c.further_down.ensures
-    ∙ ruling_lower a.policy.now.draft.tables a.state.now.cells a.event (g.U.Rule.rules a.self.now.upper) (g.L.Rule.rules a.self.now.lower) _ (Err c.in-Err-consult.reason)
-    c.in-Ok.ensures c.places.ensures c.in-Err-consult.ensures
-
-pub returns-in-Ok-consult : goal.returns-in-Ok-consult
-returns-in-Ok-consult g c =
-    let a = c.args in
-    ruling_lower a.policy.now.draft.tables a.state.now.cells a.event (g.U.Rule.rules a.self.now.upper) (g.L.Rule.rules a.self.now.lower) _ (Ok tt)
-    c.in-Ok.ensures refl c.in-Ok-consult.ensures
+pub returns : goal.returns
+returns g c =
+    let a = c.args.asked in
+    mapped_deeper c.places-above.result _ _ _ (λ r z k. search rules) c.map_err.ensures.cases
+    ∙ ruling_lower a.policy.now.draft.tables a.state.now.cells a.event (g.U.Rule.rules c.args.self.now.upper) (g.L.Rule.rules c.args.self.now.lower) _ c.consult-2.result
+    c.in_ok-consult.ensures c.places-above.ensures c.consult-2.ensures
