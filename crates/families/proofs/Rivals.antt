@@ -1,55 +1,77 @@
 -- The users who have a role active, session by session.
-use Rattle.std.proofs.Common.{◌≡◌, ℕ, ◌+◌, ◌<◌, ◌≤◌, Bool, true, false, cond, ◌&&◌, ◌||◌, eqb, ltb, List, length, get_or, drop, sym, refl, ap, ◌∙◌, inl, inr, arith}
-use Rattle.std.proofs.lemmas.List.{at_drop_more, at_drop_all}
-use Rattle.std.proofs.lemmas.Bool.{cases_eq, eq-eqb, ne_eqb, lt-ltb, and_left, cond-true, cond-false}
+use Rattle.std.proofs.Common.{◌≡◌, ℕ, ◌<◌, Bool, true, false, cond, ◌&&◌, ◌||◌, ◌⊎◌, eqb, ltb, List, [], ◌∷◌, sym, refl, ap, ◌∙◌, inl, inr}
+use Rattle.std.proofs.Math.Bool.{or_assoc}
+use Rattle.std.proofs.lemmas.Bool.{both_ways, cases_Bool, cases_eq, cond_both, cond-true, cond-false, eq-eqb, ne_eqb, lt-ltb, and_from, and_left}
+use Rattle.std.specs.List.{fold, filter}
 use Rattle.sets.specs.Sets.{has, with_member}
+use Rattle.sets.specs.declared.users.UserSet.{UserSet}
 use Rattle.sets.proofs.Laws.{has-zero, has-with, has-union}
 use Rattle.monitor.specs.declared.cells.Session.{Session}
-use Rattle.monitor.specs.declared.cells.Session.TheVariants.{Closed}
+use Rattle.monitor.specs.declared.cells.Session.TheVariants.{Closed, Open}
 use Rattle.monitor.specs.declared.cells.Whose.TheVariants.{User}
-use Rattle.monitor.specs.Cells.{active, counts, active_in}
+use Rattle.monitor.specs.Cells.{active, counts, owner, active_in}
 
--- the owner joins where the role is active
-pub joins : (users o role v : ℕ) (a : ℕ) → v < 64 → has a role ≡ true
-    → has (with_member 64 users o) v ≡ (has (cond (eqb o v) a 0) role || has users v)
-joins users o role v a l h =
-    has-with 64 users o v ∙ elim (cases_eq o v) [
-      | inl e ↦
-          let left : (eqb v o && ltb v 64) ≡ true = ap (λ (b : Bool). b && ltb v 64) (eq-eqb v o (sym e)) ∙ lt-ltb v 64 l in
-          ap (λ (b : Bool). has users v || b) left ∙ turned (has users v)
-          ∙ sym (ap (λ (b : Bool). b || has users v) (ap (λ (n : ℕ). has n role) (cond-true (eqb o v) a 0 (eq-eqb o v e)) ∙ h))
-      | inr ne ↦
-          ap (λ (b : Bool). has users v || b) (and_left (eqb v o) (ltb v 64) (ne_eqb v o (λ e. ne (sym e)))) ∙ alone (has users v)
-          ∙ sym (ap (λ (b : Bool). b || has users v) (ap (λ (n : ℕ). has n role) (cond-false (eqb o v) a 0 (ne_eqb o v ne)) ∙ has-zero role))
+abbrev pub has_active : ℕ → Session → Bool
+has_active role x = has (active x) role
+
+-- the users with the owner of a session
+abbrev pub with_owner : UserSet → Session → UserSet
+with_owner users x = record { bits = with_member 64 users.bits (owner x) }
+
+-- the role is active for the user in this session
+abbrev active_here : Session → ℕ → ℕ → Bool
+active_here x role v = has (cond (counts (User v) x) (active x) 0) role
+
+-- in a session that has the role active it is so for the owner, and in another for nobody
+for_owner : (x : Session) (role v : ℕ) → v < 64 → has_active role x ≡ true → (eqb v (owner x) && ltb v 64) ≡ active_here x role v
+for_owner Closed role v l h = absurd (both_ways (has 0 role) (has-zero role) h)
+for_owner (Open o a) role v l h =
+    elim (cases_eq o v) [
+      | inl e ↦ and_from _ _ (eq-eqb v o (sym e)) (lt-ltb v 64 l) ∙ sym (ap (λ n. has n role) (cond-true (eqb o v) a.bits 0 (eq-eqb o v e)) ∙ h)
+      | inr ne ↦ and_left _ _ (ne_eqb v o (λ e. ne (sym e))) ∙ sym (ap (λ n. has n role) (cond-false (eqb o v) a.bits 0 (ne_eqb o v ne)) ∙ has-zero role)
     ]
+
+for_nobody : (x : Session) (role v : ℕ) → has_active role x ≡ false → active_here x role v ≡ false
+for_nobody x role v h = cond_both (counts (User v) x) (active x) 0 (λ n. has n role ≡ false) (λ _. h) (λ _. has-zero role)
+
+-- the role is active for the user in one of the sessions
+abbrev active_in_one : List Session → ℕ → ℕ → Bool
+active_in_one xs role v = has (active_in (User v) xs) role
+
+owner_more : (x : Session) (xs : List Session) (users : UserSet) (role v : ℕ) → v < 64
+    → has (fold with_owner (with_owner users x) (filter (has_active role) xs)).bits v ≡ (has (with_owner users x).bits v || active_in_one xs role v)
+    → has (fold with_owner users (filter (has_active role) xs)).bits v ≡ (has users.bits v || active_in_one xs role v)
+    → has (fold with_owner users (filter (has_active role) (x ∷ xs))).bits v ≡ (has users.bits v || active_in_one (x ∷ xs) role v)
+owner_more x xs users role v l taken passed = go (cases_Bool (has_active role x))
   where
-    turned : (b : Bool) → (b || true) ≡ (true || b)
-    turned true = refl
-    turned false = refl
+    rest : Bool
+    rest = active_in_one xs role v
 
-    alone : (b : Bool) → (b || false) ≡ (false || b)
-    alone true = refl
-    alone false = refl
+    of : List Session → Bool
+    of ys = has (fold with_owner users ys).bits v
 
--- nobody joins where it is not
-pub stays : (users o role v : ℕ) (a : ℕ) → has a role ≡ false → has users v ≡ (has (cond (eqb o v) a 0) role || has users v)
-stays users o role v a h =
-    sym (ap (λ (b : Bool). b || has users v) (elim (cases_eq o v) [
-      | inl e ↦ ap (λ (n : ℕ). has n role) (cond-true (eqb o v) a 0 (eq-eqb o v e)) ∙ h
-      | inr ne ↦ ap (λ (n : ℕ). has n role) (cond-false (eqb o v) a 0 (ne_eqb o v ne)) ∙ has-zero role
-    ]))
+    both : (has users.bits v || (active_here x role v || rest)) ≡ (has users.bits v || active_in_one (x ∷ xs) role v)
+    both = ap (λ (b : Bool). has users.bits v || b) (sym (has-union (cond (counts (User v) x) (active x) 0) (active_in (User v) xs) role))
 
--- one session more
-pub users_more : (xs : List Session) (i at role v : ℕ) (users next : ℕ) → at ≡ i + 1 → at ≤ length xs
-    → has next v ≡ (has (cond (counts (User v) (get_or xs i Closed)) (active (get_or xs i Closed)) 0) role || has users v)
-    → has users v ≡ has (active_in (User v) (drop at xs)) role → has next v ≡ has (active_in (User v) (drop i xs)) role
-users_more xs i at role v users next e l hn hu =
-    let here = cond (counts (User v) (get_or xs i Closed)) (active (get_or xs i Closed)) 0 in
-    let m : has (active_in (User v) (drop i xs)) role ≡ (has here role || has (active_in (User v) (drop (i + 1) xs)) role) =
-    at_drop_more (λ ys. has (active_in (User v) ys) role) xs i Closed (omega arith) ∙ has-union here (active_in (User v) (drop (i + 1) xs)) role in
-    let n = ap (λ k. has (active_in (User v) (drop k xs)) role) e in
-    hn ∙ ap (λ (b : Bool). has here role || b) (hu ∙ n) ∙ sym m
+    go : (has_active role x ≡ true) ⊎ (has_active role x ≡ false) → of (filter (has_active role) (x ∷ xs)) ≡ (has users.bits v || active_in_one (x ∷ xs) role v)
+    go (inl h) =
+        ap of (cond-true (has_active role x) (x ∷ filter (has_active role) xs) (filter (has_active role) xs) h)
+        ∙ taken
+        ∙ ap (λ (b : Bool). b || rest) (has-with 64 users.bits (owner x) v)
+        ∙ or_assoc (has users.bits v) _ rest
+        ∙ ap (λ (b : Bool). has users.bits v || (b || rest)) (for_owner x role v l h)
+        ∙ both
+    go (inr h) =
+        ap of (cond-false (has_active role x) (x ∷ filter (has_active role) xs) (filter (has_active role) xs) h)
+        ∙ passed
+        ∙ ap (λ (b : Bool). has users.bits v || (b || rest)) (sym (for_nobody x role v h))
+        ∙ both
 
-pub users_none : (xs : List Session) (i role v users : ℕ) → length xs ≤ i → users ≡ 0 → has users v ≡ has (active_in (User v) (drop i xs)) role
-users_none xs i role v users l e =
-    ap (λ n. has n v) e ∙ has-zero v ∙ sym (at_drop_all (λ ys. has (active_in (User v) ys) role) xs i l ∙ has-zero role)
+pub owners : (xs : List Session) (users : UserSet) (role v : ℕ) → v < 64
+    → has (fold with_owner users (filter (has_active role) xs)).bits v ≡ (has users.bits v || has (active_in (User v) xs) role)
+owners [] users role v l = sym (ap (λ (b : Bool). has users.bits v || b) (has-zero role) ∙ none (has users.bits v))
+  where
+    none : (b : Bool) → (b || false) ≡ b
+    none true = refl
+    none false = refl
+owners (x ∷ xs) users role v l = owner_more x xs users role v l (owners xs (with_owner users x) role v l) (owners xs users role v l)

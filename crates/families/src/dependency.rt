@@ -6,17 +6,17 @@ ghost use Rattle.sets.specs.Sets.{has};
 ghost use Rattle.policy.specs.Seniority.{gathered};
 ghost use Rattle.monitor.specs.Effect.{put_session};
 ghost use Rattle.families.specs.Dependency.{dependency, unmet_by, unmet_number, unmet_subject, missing, unmet};
-ghost use Rattle.families.specs.Family.{Exact};
+ghost use Rattle.families.specs.Family.{Exact, clear_of, at_top};
 ghost use Rattle.families.specs.Leaning.{dependency_law};
 ghost use Rattle.std.proofs.Common.{rules};
 
+use crate::family::{at_top, none_of};
 use monitor::answer::Reason;
 use monitor::asked::Asked;
 use monitor::cells::Session;
 use monitor::rule::Rule;
-use monitor::state::State;
-use policy::approved::Approved;
 use policy::seniority::gather;
+use policy::tables::Tables;
 use records::event::Event;
 use sets::RoleSet;
 
@@ -46,49 +46,51 @@ impl Unmet {
     }
 }
 
+impl From<Unmet> for Reason {
+    ghost from_gives = { λ unmet reason. reason ≡ at_top (unmet_number unmet) (unmet_subject unmet) };
+
+    fn from(unmet: Unmet) -> Reason {
+        at_top(unmet.number(), unmet.subject())
+    }
+}
+
 // The lowest role that one of the active roles depends on and that is not among them.
-fn lowest_missing(policy: &Approved, active: RoleSet) -> Option<u8>
-    ensures { result ≡ first_below 32 (λ b. has (gathered policy.now.draft.tables.dependencies.needs active 32) b && not (has active.bits b)) }
+fn lowest_missing(tables: &Tables, active: RoleSet) -> Option<u8>
+    ensures { result ≡ first_below 32 (λ b. has (gathered tables.now.dependencies.needs active 32) b && not (has active.bits b)) }
 {
-    gather(&policy.draft.tables.dependencies.needs, active)
+    gather(&tables.dependencies.needs, active)
         .difference(active)
         .lowest()
 }
 
-// What is unmet once another session stands in the place of one.
-fn unmet_after(policy: &Approved, state: &State, session: u8, changed: Session) -> Option<Unmet>
-    ensures { result ≡ option_map unmet (missing policy.now.draft.tables (put_session state.now.cells session changed)) }
+// Passes where nothing is missing once another session stands in the place of one.
+fn met_after(asked: Asked, session: u8, changed: Session) -> Result<(), Unmet>
+    ensures { result ≡ clear_of (option_map unmet (missing asked.entry.policy.now.draft.tables (put_session asked.entry.state.now.cells session changed))) }
 {
-    match lowest_missing(policy, state.active_after(session, changed)) {
-        Some(role) => Some(Unmet::NotActive { role }),
-        None => None,
-    }
+    let active = asked.state.active_after(session, changed);
+    none_of(lowest_missing(&asked.policy.draft.tables, active)).map_err(|role| Unmet::NotActive {
+        role,
+    })
 }
 
 // The question put to the state after the event; a close is judged once all its roles have ended together.
-fn unmet_by(asked: Asked) -> Option<Unmet>
-    ensures { result ≡ unmet_by asked.entry.policy.now.draft.tables asked.entry.state.now.cells asked.entry.event }
+fn unmet_by(asked: Asked) -> Result<(), Unmet>
+    ensures { result ≡ clear_of (unmet_by asked.entry.policy.now.draft.tables asked.entry.state.now.cells asked.entry.event) }
 {
-    let Asked {
-        policy,
-        state,
-        event,
-    } = asked;
-    match event {
-        Event::Close { session } => unmet_after(policy, state, session, Session::Closed),
-        Event::Activate { session, role } => unmet_after(
-            policy,
-            state,
+    let state = asked.state;
+    match asked.event {
+        Event::Close { session } => met_after(asked, session, Session::Closed),
+        Event::Activate { session, role } => met_after(
+            asked,
             session,
             state.session(session).activated(role),
         ),
-        Event::Deactivate { session, role } => unmet_after(
-            policy,
-            state,
+        Event::Deactivate { session, role } => met_after(
+            asked,
             session,
             state.session(session).deactivated(role),
         ),
-        _ => None,
+        _ => Ok(()),
     }
 }
 
@@ -103,14 +105,7 @@ impl Rule for Dependency {
     ghost lawful = { λ x. (dependency_law, tt) };
 
     fn consult(&self, asked: Asked) -> Result<(), Reason> {
-        match unmet_by(asked) {
-            None => Ok(()),
-            Some(unmet) => Err(Reason {
-                number: unmet.number(),
-                subject: unmet.subject(),
-                place: 1,
-            }),
-        }
+        Ok(unmet_by(asked)?)
     }
 
     fn places(&self) -> u8 {

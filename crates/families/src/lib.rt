@@ -3,8 +3,8 @@
 
 pub mod cardinality;
 pub mod dependency;
+mod family;
 pub mod house;
 pub mod precedence;
-mod rows;
 pub mod separation;
 pub mod worked;

@@ -1,30 +1,59 @@
 // Precedence: all that a role requires stands before the role is enabled, assigned or activated.
-ghost use Rattle.std.specs.Prelude.{◌≡◌, ◌<◌, not, ◌&&◌, [], ◌∷◌};
-ghost use Rattle.sets.specs.First.{first_below};
+ghost use Rattle.std.specs.Prelude.{◌≡◌, [], ◌∷◌};
 ghost use Rattle.sets.specs.Sets.{has};
-ghost use Rattle.families.specs.Precedence.{precedence, required_set, assigned_in, enable_lack, assign_lack, activate_lack, lacking_by, lack_number, lack_subject};
+ghost use Rattle.families.specs.Family.{clear_of, at_top};
+ghost use Rattle.families.specs.Precedence.{precedence, condition_number, condition_row, required_set, lack, assigned_in, enable_lack, assign_lack, activate_lack, lacking_by, lack_number, lack_subject};
 ghost use Rattle.families.specs.Required.{precedence_law};
 ghost use Rattle.std.proofs.Common.{rules};
 
-use crate::rows::row_at;
+use crate::family::{at_top, none_of, value_at};
 use monitor::answer::Reason;
 use monitor::asked::Asked;
 use monitor::cells::{Session, Whose};
 use monitor::rule::Rule;
-use monitor::state::State;
 use policy::tables::Tables;
 use records::event::Event;
 use sets::RoleSet;
 
+// How the roles that a role requires have to stand: six kinds of requirement.
+#[derive(Clone, Copy)]
+pub enum Condition {
+    Enabled,
+    AssignedToUser,
+    AssignedToAny,
+    ActiveForAny,
+    ActiveInSession,
+    ActiveForOwner,
+}
+
+impl Condition {
+    // The number that is answered.
+    pub fn number(self) -> u8
+        ensures { result ≡ condition_number self }
+    {
+        match self {
+            Condition::Enabled => 51,
+            Condition::AssignedToUser => 52,
+            Condition::AssignedToAny => 53,
+            Condition::ActiveForAny => 54,
+            Condition::ActiveInSession => 55,
+            Condition::ActiveForOwner => 56,
+        }
+    }
+
+    // Where a policy keeps the roles that are required so.
+    fn row(self) -> u8
+        ensures { result ≡ condition_row self }
+    {
+        self as u8
+    }
+}
+
 // The lowest required role that does not stand, and how it should.
 #[derive(Clone, Copy)]
-pub enum Lack {
-    Enabled { role: u8 },
-    AssignedToUser { role: u8 },
-    AssignedToAny { role: u8 },
-    ActiveForAny { role: u8 },
-    ActiveInSession { role: u8 },
-    ActiveForOwner { role: u8 },
+pub struct Lack {
+    pub condition: Condition,
+    pub role: u8,
 }
 
 impl Lack {
@@ -32,115 +61,97 @@ impl Lack {
     pub fn number(self) -> u8
         ensures { result ≡ lack_number self }
     {
-        match self {
-            Lack::Enabled { .. } => 51,
-            Lack::AssignedToUser { .. } => 52,
-            Lack::AssignedToAny { .. } => 53,
-            Lack::ActiveForAny { .. } => 54,
-            Lack::ActiveInSession { .. } => 55,
-            Lack::ActiveForOwner { .. } => 56,
-        }
+        self.condition.number()
     }
 
     // The required role.
     pub fn subject(self) -> u8
         ensures { result ≡ lack_subject self }
     {
-        match self {
-            Lack::Enabled { role } => role,
-            Lack::AssignedToUser { role } => role,
-            Lack::AssignedToAny { role } => role,
-            Lack::ActiveForAny { role } => role,
-            Lack::ActiveInSession { role } => role,
-            Lack::ActiveForOwner { role } => role,
-        }
+        self.role
     }
 }
 
-// The roles that a role requires, by the kind of the requirement.
-fn required_set(tables: &Tables, kind: usize, role: u8) -> RoleSet
-    requires { kind < 6 }
-    ensures { result ≡ required_set tables.now kind role }
-{
-    row_at(&tables.requirements.sets[kind], role)
+impl From<Lack> for Reason {
+    ghost from_gives = { λ lack reason. reason ≡ at_top (lack_number lack) (lack_subject lack) };
+
+    fn from(lack: Lack) -> Reason {
+        at_top(lack.number(), lack.subject())
+    }
 }
 
-// The lowest required role that does not stand.
-fn lowest_lacking(required: RoleSet, standing: RoleSet) -> Option<u8>
-    ensures { result ≡ first_below 32 (λ b. has required.bits b && not (has standing.bits b)) }
+// The roles that a role requires to stand so.
+fn required_set(tables: &Tables, condition: Condition, role: u8) -> RoleSet
+    ensures { result ≡ required_set tables.now condition role }
 {
-    required.difference(standing).lowest()
+    value_at(
+        &tables.requirements.sets[usize::from(condition.row())],
+        role,
+        RoleSet::empty(),
+    )
+}
+
+// Passes where every role that is required so is among those that stand.
+fn require(asked: Asked, condition: Condition, role: u8, standing: RoleSet) -> Result<(), Lack>
+    ensures { result ≡ clear_of (lack asked.entry.policy.now.draft.tables condition role (has standing.bits)) }
+{
+    let required = required_set(&asked.policy.draft.tables, condition, role);
+    let missing = required.difference(standing);
+    none_of(missing.lowest()).map_err(|role| Lack { condition, role })
 }
 
 // The roles assigned to some user.
 fn assigned_among(users: &[RoleSet; 64]) -> RoleSet
     ensures { result ≡ record { bits = assigned_in users.now } }
 {
-    let mut all = RoleSet::empty();
-    for at in (0..64usize).rev() {
-        all = users[at].union(all);
-    }
-    all
+    users
+        .iter()
+        .rev()
+        .fold(RoleSet::empty(), |all, roles| roles.union(all))
 }
 
 // The question to the enabling of a role.
-fn enable_lack(tables: &Tables, state: &State, role: u8) -> Option<Lack>
-    ensures { result ≡ enable_lack tables.now state.now.cells role }
+fn enable_lack(asked: Asked, role: u8) -> Result<(), Lack>
+    ensures { result ≡ clear_of (enable_lack asked.entry.policy.now.draft.tables asked.entry.state.now.cells role) }
 {
-    match lowest_lacking(required_set(tables, 0, role), state.cells.enabled) {
-        Some(role) => Some(Lack::Enabled { role }),
-        None => None,
-    }
+    require(asked, Condition::Enabled, role, asked.state.cells.enabled)
 }
 
 // The questions to an assignment.
-fn assign_lack(tables: &Tables, state: &State, user: u8, role: u8) -> Option<Lack>
-    ensures { result ≡ assign_lack tables.now state.now.cells user role }
+fn assign_lack(asked: Asked, user: u8, role: u8) -> Result<(), Lack>
+    ensures { result ≡ clear_of (assign_lack asked.entry.policy.now.draft.tables asked.entry.state.now.cells user role) }
 {
-    if let Some(role) = lowest_lacking(required_set(tables, 1, role), state.assigned(user)) {
-        return Some(Lack::AssignedToUser { role });
-    }
-    let anywhere = assigned_among(&state.cells.assigned);
-    match lowest_lacking(required_set(tables, 2, role), anywhere) {
-        Some(role) => Some(Lack::AssignedToAny { role }),
-        None => None,
-    }
+    let own = asked.state.assigned(user);
+    require(asked, Condition::AssignedToUser, role, own)?;
+    let anywhere = assigned_among(&asked.state.cells.assigned);
+    require(asked, Condition::AssignedToAny, role, anywhere)
 }
 
 // The questions to an activation in a session.
-fn activate_lack(tables: &Tables, state: &State, role: u8, session: Session) -> Option<Lack>
-    ensures { result ≡ activate_lack tables.now state.now.cells role session }
+fn activate_lack(asked: Asked, role: u8, session: Session) -> Result<(), Lack>
+    ensures { result ≡ clear_of (activate_lack asked.entry.policy.now.draft.tables asked.entry.state.now.cells role session) }
 {
     let Session::Open { owner, active } = session else {
-        return None;
+        return Ok(());
     };
-    let anyone = state.active_in(Whose::Anyone);
-    if let Some(role) = lowest_lacking(required_set(tables, 3, role), anyone) {
-        return Some(Lack::ActiveForAny { role });
-    }
-    if let Some(role) = lowest_lacking(required_set(tables, 4, role), active) {
-        return Some(Lack::ActiveInSession { role });
-    }
-    let owned = state.active_in(Whose::User { user: owner });
-    match lowest_lacking(required_set(tables, 5, role), owned) {
-        Some(role) => Some(Lack::ActiveForOwner { role }),
-        None => None,
-    }
+    let anyone = asked.state.active_in(Whose::Anyone);
+    require(asked, Condition::ActiveForAny, role, anyone)?;
+    require(asked, Condition::ActiveInSession, role, active)?;
+    let owned = asked.state.active_in(Whose::User { user: owner });
+    require(asked, Condition::ActiveForOwner, role, owned)
 }
 
-// The first question that the event fails, if it fails one.
-fn lack_by(asked: Asked) -> Option<Lack>
-    ensures { result ≡ lacking_by asked.entry.policy.now.draft.tables asked.entry.state.now.cells asked.entry.event }
+// The questions that the event may fail.
+fn lack_by(asked: Asked) -> Result<(), Lack>
+    ensures { result ≡ clear_of (lacking_by asked.entry.policy.now.draft.tables asked.entry.state.now.cells asked.entry.event) }
 {
-    let tables = &asked.policy.draft.tables;
-    let state = asked.state;
     match asked.event {
-        Event::Enable { role } => enable_lack(tables, state, role),
-        Event::Assign { user, role } => assign_lack(tables, state, user, role),
+        Event::Enable { role } => enable_lack(asked, role),
+        Event::Assign { user, role } => assign_lack(asked, user, role),
         Event::Activate { session, role } => {
-            activate_lack(tables, state, role, state.session(session))
+            activate_lack(asked, role, asked.state.session(session))
         }
-        _ => None,
+        _ => Ok(()),
     }
 }
 
@@ -155,14 +166,7 @@ impl Rule for Precedence {
     ghost lawful = { λ x. (precedence_law, tt) };
 
     fn consult(&self, asked: Asked) -> Result<(), Reason> {
-        match lack_by(asked) {
-            None => Ok(()),
-            Some(lack) => Err(Reason {
-                number: lack.number(),
-                subject: lack.subject(),
-                place: 1,
-            }),
-        }
+        Ok(lack_by(asked)?)
     }
 
     fn places(&self) -> u8 {

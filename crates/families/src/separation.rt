@@ -1,23 +1,20 @@
 // Separation of duty: static over authorised roles, dynamic over active roles, and conflicting users.
-ghost use Rattle.std.specs.Prelude.{◌≡◌, ℕ, ◌<◌, ◌||◌, [], ◌∷◌, if◌then◌else◌, slice_index_or};
+ghost use Rattle.std.specs.Prelude.{◌≡◌, ℕ, ◌<◌, [], ◌∷◌, slice_index_or};
 ghost use Rattle.std.specs.Option.{option_map};
 ghost use Rattle.sets.specs.Sets.{has};
 ghost use Rattle.policy.specs.Entries.{no_users};
-ghost use Rattle.monitor.specs.declared.cells.Whose.TheVariants.{User};
-ghost use Rattle.monitor.specs.Cells.{active, counts};
-ghost use Rattle.families.specs.Family.{Exact};
+ghost use Rattle.families.specs.Family.{Exact, clear_of, at_top};
 ghost use Rattle.families.specs.Separation.{active_for, static_clash, dynamic_clash, user_clash, clash_by, clash_number, clash_subject, separation};
 ghost use Rattle.families.specs.declared.separation.Clash.TheVariants.{StaticRole, DynamicRole, ConflictingUser};
 ghost use Rattle.families.specs.Apart.{separation_law};
 ghost use Rattle.std.proofs.Common.{rules};
 
-use crate::rows::row_at;
+use crate::family::{at_top, none_of, value_at};
 use monitor::answer::Reason;
 use monitor::asked::Asked;
-use monitor::cells::{Session, Whose};
+use monitor::cells::Whose;
 use monitor::rule::Rule;
 use monitor::state::State;
-use policy::approved::Approved;
 use policy::tables::UserConflicts;
 use records::event::Event;
 use sets::{RoleSet, UserSet};
@@ -55,98 +52,87 @@ impl Clash {
     }
 }
 
-// The users in conflict with a user for a role.
-fn conflicting(table: &UserConflicts, role: u8, user: u8) -> UserSet
-    requires { (role < 32) × (user < 64) }
-    ensures { result ≡ slice_index_or (slice_index_or table.now.partners role []) user no_users }
-{
-    table.partners[role as usize][user as usize]
+impl From<Clash> for Reason {
+    ghost from_gives = { λ clash reason. reason ≡ at_top (clash_number clash) (clash_subject clash) };
+
+    fn from(clash: Clash) -> Reason {
+        at_top(clash.number(), clash.subject())
+    }
 }
 
-// The users, and the owner of the session where it has the role active.
-fn joined(users: UserSet, session: Session, role: u8) -> UserSet
-    ensures { (v : ℕ) → v < 64 → has result.bits v ≡ (has (if counts (User v) session then active session else 0) role || has users.bits v) }
+// The users in conflict with a user for a role.
+fn conflicting(table: &UserConflicts, role: u8, user: u8) -> UserSet
+    ensures { result ≡ slice_index_or (slice_index_or table.now.partners role []) user no_users }
 {
-    match session {
-        Session::Open { owner, active } => if active.contains(role) {
-            users.with(owner)
-        } else {
-            users
-        },
-        Session::Closed => users,
-    }
+    table.partners.get(usize::from(role)).map_or(
+        UserSet::empty(),
+        |users| value_at(users, user, UserSet::empty()),
+    )
 }
 
 // The users who have the role active.
 fn users_with(state: &State, role: u8) -> UserSet
     ensures { (v : ℕ) → v < 64 → has result.bits v ≡ active_for state.now.cells v role }
 {
-    let mut users = UserSet::empty();
-    for at in (0..64usize).rev() {
-        users = joined(users, state.cells.sessions[at], role);
-    }
-    users
+    state
+        .cells
+        .sessions
+        .iter()
+        .filter(|session| session.active().contains(role))
+        .fold(
+            UserSet::empty(),
+            |users, session| users.with(session.owner()),
+        )
 }
 
-// A role in static conflict with the asked one that the user is authorised for.
-fn assign_clash(policy: &Approved, state: &State, user: u8, role: u8) -> Option<Clash>
-    ensures { result ≡ option_map StaticRole (static_clash policy.now.draft.tables state.now.cells user role) }
+// No role in static conflict with the asked one that the user is authorised for.
+fn assign_clash(asked: Asked, user: u8, role: u8) -> Result<(), Clash>
+    ensures { result ≡ clear_of (option_map StaticRole (static_clash asked.entry.policy.now.draft.tables asked.entry.state.now.cells user role)) }
 {
-    match state
-        .authorised(user)
-        .intersection(row_at(&policy.draft.tables.ssd.partners, role))
-        .lowest()
-    {
-        Some(role) => Some(Clash::StaticRole { role }),
-        None => None,
-    }
+    let partners = value_at(
+        &asked.policy.draft.tables.ssd.partners,
+        role,
+        RoleSet::empty(),
+    );
+    let clashing = asked.state.authorised(user).intersection(partners);
+    none_of(clashing.lowest()).map_err(|role| Clash::StaticRole { role })
 }
 
-// A role in dynamic conflict with the asked one that the owner has active.
-fn dynamic_clash(policy: &Approved, state: &State, owner: u8, role: u8) -> Option<Clash>
-    ensures { result ≡ option_map DynamicRole (dynamic_clash policy.now.draft.tables state.now.cells owner role) }
+// No role in dynamic conflict with the asked one that the owner has active.
+fn dynamic_clash(asked: Asked, owner: u8, role: u8) -> Result<(), Clash>
+    ensures { result ≡ clear_of (option_map DynamicRole (dynamic_clash asked.entry.policy.now.draft.tables asked.entry.state.now.cells owner role)) }
 {
-    let active = state.active_in(Whose::User { user: owner });
-    match active
-        .intersection(row_at(&policy.draft.tables.dsd.partners, role))
-        .lowest()
-    {
-        Some(role) => Some(Clash::DynamicRole { role }),
-        None => None,
-    }
+    let partners = value_at(
+        &asked.policy.draft.tables.dsd.partners,
+        role,
+        RoleSet::empty(),
+    );
+    let active = asked.state.active_in(Whose::User { user: owner });
+    let clashing = active.intersection(partners);
+    none_of(clashing.lowest()).map_err(|role| Clash::DynamicRole { role })
 }
 
-// A user in conflict with the owner for the asked role who has it active.
-fn user_clash(policy: &Approved, state: &State, owner: u8, role: u8) -> Option<Clash>
-    requires { (owner < 64) × (role < 32) }
-    ensures { result ≡ option_map ConflictingUser (user_clash policy.now.draft.tables state.now.cells owner role) }
+// No user in conflict with the owner for the asked role who has it active.
+fn user_clash(asked: Asked, owner: u8, role: u8) -> Result<(), Clash>
+    ensures { result ≡ clear_of (option_map ConflictingUser (user_clash asked.entry.policy.now.draft.tables asked.entry.state.now.cells owner role)) }
 {
-    let rivals = conflicting(&policy.draft.tables.conflicting, role, owner);
-    match rivals.intersection(users_with(state, role)).lowest() {
-        Some(user) => Some(Clash::ConflictingUser { user }),
-        None => None,
-    }
+    let rivals = conflicting(&asked.policy.draft.tables.conflicting, role, owner);
+    let clashing = rivals.intersection(users_with(asked.state, role));
+    none_of(clashing.lowest()).map_err(|user| Clash::ConflictingUser { user })
 }
 
-// The first question that the event fails.
-fn clash_by(asked: Asked) -> Option<Clash>
-    ensures { result ≡ clash_by asked.entry.policy.now.draft.tables asked.entry.state.now.cells asked.entry.event }
+// The questions that the event may fail.
+fn clash_by(asked: Asked) -> Result<(), Clash>
+    ensures { result ≡ clear_of (clash_by asked.entry.policy.now.draft.tables asked.entry.state.now.cells asked.entry.event) }
 {
-    let Asked {
-        policy,
-        state,
-        event,
-    } = asked;
-    match event {
-        Event::Assign { user, role } => assign_clash(policy, state, user, role),
+    match asked.event {
+        Event::Assign { user, role } => assign_clash(asked, user, role),
         Event::Activate { session, role } => {
-            let owner = state.session(session).owner();
-            match dynamic_clash(policy, state, owner, role) {
-                Some(clash) => Some(clash),
-                None => user_clash(policy, state, owner, role),
-            }
+            let owner = asked.state.session(session).owner();
+            dynamic_clash(asked, owner, role)?;
+            user_clash(asked, owner, role)
         }
-        _ => None,
+        _ => Ok(()),
     }
 }
 
@@ -161,14 +147,7 @@ impl Rule for Separation {
     ghost lawful = { λ x. (separation_law, tt) };
 
     fn consult(&self, asked: Asked) -> Result<(), Reason> {
-        match clash_by(asked) {
-            None => Ok(()),
-            Some(clash) => Err(Reason {
-                number: clash.number(),
-                subject: clash.subject(),
-                place: 1,
-            }),
-        }
+        Ok(clash_by(asked)?)
     }
 
     fn places(&self) -> u8 {

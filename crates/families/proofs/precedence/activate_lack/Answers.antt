@@ -1,36 +1,28 @@
-use Rattle.std.proofs.Common.{Some, None, refl}
-use Rattle.families.specs.Required.{same_lack, fails_anyone, fails_session, asks_owner}
+use Rattle.std.proofs.Common.{◌≡◌, ◌∙◌, Err, Ok, sym, ap, rules}
+use Rattle.sets.specs.Sets.{has}
+use Rattle.sets.specs.declared.roles.RoleSet.{RoleSet}
+use Rattle.monitor.specs.declared.cells.Whose.TheVariants.{Anyone, User}
+use Rattle.families.specs.declared.precedence.Condition.TheVariants.{ActiveForAny, ActiveInSession, ActiveForOwner}
+use Rattle.families.specs.Family.{clear_of}
+use Rattle.families.specs.Precedence.{active_for, lack}
+use Rattle.families.proofs.Clear.{stops, goes_on}
 use Rattle.families.proofs.precedence.activate_lack.Goals as goal
 
-pub returns-in-Some : goal.returns-in-Some
-returns-in-Some c =
-    let t = c.args.tables.now in
+pub returns-in_err-require : goal.returns-in_err-require
+returns-in_err-require c =
+    let t = c.args.asked.policy.now.draft.tables in
     let r = c.args.role in
-    fails_anyone t c.args.state.now.cells r _ _ c.args.session c.in-Open.is c.in-Some.role
-    (same_lack t 3 r _ _ _ (Some c.in-Some.role) c.required_set.ensures c.active_in-anyone.ensures c.in-Some.ensures)
+    let first : clear_of (lack t ActiveForAny r (active_for c.args.asked.state.now.cells Anyone)) ≡ Err c.in_err-require.field-0.0 =
+    ap (λ (s : RoleSet). clear_of (lack t ActiveForAny r (has s.bits))) (sym c.active_in-anyone.ensures) ∙ sym c.require.ensures ∙ c.in_err-require.was in
+    rw c.in-Open.is (stops _ _ c.from_residual.result c.in_err-require.field-0.0 first (search rules))
 
-pub returns-in-Some-lowest_lacking : goal.returns-in-Some-lowest_lacking
-returns-in-Some-lowest_lacking c =
-    let t = c.args.tables.now in
+pub returns : goal.returns
+returns c =
+    let t = c.args.asked.policy.now.draft.tables in
     let r = c.args.role in
-    fails_session t c.args.state.now.cells r _ _ c.args.session c.in-Open.is c.in-Some-lowest_lacking.role
-    (same_lack t 3 r _ _ _ None c.required_set.ensures c.active_in-anyone.ensures c.in_default-lowest_lacking.ensures)
-    (same_lack t 4 r _ c.in-Open.active _ (Some c.in-Some-lowest_lacking.role) c.required_set-2.ensures refl c.in-Some-lowest_lacking.ensures)
-
-pub returns-in-Some-lowest_lacking-2 : goal.returns-in-Some-lowest_lacking-2
-returns-in-Some-lowest_lacking-2 c =
-    let t = c.args.tables.now in
-    let r = c.args.role in
-    asks_owner t c.args.state.now.cells r _ _ c.args.session c.in-Open.is (Some c.in-Some-lowest_lacking-2.role)
-    (same_lack t 3 r _ _ _ None c.required_set.ensures c.active_in-anyone.ensures c.in_default-lowest_lacking.ensures)
-    (same_lack t 4 r _ c.in-Open.active _ None c.required_set-2.ensures refl c.in_default-lowest_lacking-2.ensures)
-    (same_lack t 5 r _ _ _ (Some c.in-Some-lowest_lacking-2.role) c.required_set-3.ensures c.active_in-owned.ensures c.in-Some-lowest_lacking-2.ensures)
-
-pub returns-in-None : goal.returns-in-None
-returns-in-None c =
-    let t = c.args.tables.now in
-    let r = c.args.role in
-    asks_owner t c.args.state.now.cells r _ _ c.args.session c.in-Open.is None
-    (same_lack t 3 r _ _ _ None c.required_set.ensures c.active_in-anyone.ensures c.in_default-lowest_lacking.ensures)
-    (same_lack t 4 r _ c.in-Open.active _ None c.required_set-2.ensures refl c.in_default-lowest_lacking-2.ensures)
-    (same_lack t 5 r _ _ _ None c.required_set-3.ensures c.active_in-owned.ensures c.in-None.ensures)
+    let first : clear_of (lack t ActiveForAny r (active_for c.args.asked.state.now.cells Anyone)) ≡ Ok c.in_ok-require.field-0 =
+    ap (λ (s : RoleSet). clear_of (lack t ActiveForAny r (has s.bits))) (sym c.active_in-anyone.ensures) ∙ sym c.require.ensures ∙ c.in_ok-require.was in
+    let second : clear_of (lack t ActiveInSession r (has c.in-Open.active.bits)) ≡ Ok c.in_ok-require-2.field-0 = sym c.require-2.ensures ∙ c.in_ok-require-2.was in
+    let third : c.require-3.result ≡ clear_of (lack t ActiveForOwner r (active_for c.args.asked.state.now.cells (User c.in-Open.owner))) =
+    c.require-3.ensures ∙ ap (λ (s : RoleSet). clear_of (lack t ActiveForOwner r (has s.bits))) c.active_in-owned.ensures in
+    rw c.in-Open.is (goes_on _ _ c.require-3.result _ first (goes_on _ _ _ _ second third))

@@ -1,11 +1,15 @@
-use Rattle.std.proofs.Common.{◌-◌, ◌∙◌, arith}
-use Rattle.families.specs.Required.{assigned_more, assigned_none}
+use Rattle.std.proofs.Common.{◌≡◌, reverse, ap, ◌∙◌, rules}
+use Rattle.std.specs.List.{fold}
+use Rattle.std.proofs.lemmas.Iterator.Adapters.{YieldsList-from_rev_slice}
+use borrow.Author.Tests.{tests}
+use Rattle.sets.specs.declared.roles.RoleSet.{RoleSet}
+use Rattle.families.proofs.Assigned.{with_roles, assigned_fold}
+use Rattle.families.proofs.Folded.{folded}
 use Rattle.families.proofs.precedence.assigned_among.Goals as goal
 
-pub loop-at-init : goal.loop-at-init
-loop-at-init c = assigned_none c.args.users.now 64 c.empty-all.result (omega (arith)) c.empty-all.ensures.value
-
-pub loop-at-preserved : goal.loop-at-preserved
-loop-at-preserved c =
-    c.union-all.ensures.value
-    ∙ assigned_more c.args.users.now (c.loop-at.at - 1) c.loop-at.at c.loop-at.all (omega (arith, c.loop-at-test.true)) (omega (arith)) c.loop-at.invariant
+pub returns : goal.returns
+returns c =
+    let users = c.args.users.now in
+    let e : c.fold.result ≡ fold with_roles c.empty.result (reverse users) =
+    folded with_roles c.empty.result c.fold.result c.fold.ensures.ran (YieldsList-from_rev_slice users (cc)) (λ a x b f' k. search (rules, tests)) in
+    e ∙ ap (λ (s : RoleSet). fold with_roles s (reverse users)) c.empty.ensures.value ∙ assigned_fold users

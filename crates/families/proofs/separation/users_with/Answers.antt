@@ -1,14 +1,24 @@
-use Rattle.std.proofs.Common.{◌-◌, ap, arith}
+use Rattle.std.proofs.Common.{◌≡◌, ap, ◌∙◌, ◌||◌, rules}
+use Rattle.std.specs.List.{fold, filter}
+use Rattle.std.proofs.lemmas.Iterator.{YieldsList-from_slice}
+use Rattle.std.proofs.lemmas.Iterator.Consumers.{YieldsList-from_filter}
+use borrow.Author.Tests.{tests}
+use Rattle.sets.specs.Sets.{has}
 use Rattle.sets.specs.declared.users.UserSet.{UserSet}
-use Rattle.families.proofs.Rivals.{users_more, users_none}
+use Rattle.sets.proofs.Laws.{has-zero}
+use Rattle.monitor.specs.declared.cells.Whose.TheVariants.{User}
+use Rattle.monitor.specs.Cells.{active_in}
+use Rattle.families.proofs.Folded.{folded}
+use Rattle.families.proofs.Rivals.{has_active, with_owner, owners}
 use Rattle.families.proofs.separation.users_with.Goals as goal
 
-pub loop-at-init : goal.loop-at-init
-loop-at-init c v l =
-    users_none c.args.state.now.cells.sessions 64 c.args.role v c.empty-users.result.bits (omega (arith, c.args.state.now.wide))
-    (ap (λ (s : UserSet). s.bits) c.empty-users.ensures.value)
-
-pub loop-at-preserved : goal.loop-at-preserved
-loop-at-preserved c v l =
-    users_more c.args.state.now.cells.sessions (c.loop-at.at - 1) c.loop-at.at c.args.role v c.loop-at.users.bits c.joined-users.result.bits
-    (omega (arith, c.loop-at-test.true)) (omega (arith, c.args.state.now.wide)) (c.joined-users.ensures v l) (c.loop-at.invariant v l)
+pub returns : goal.returns
+returns c v l =
+    let sessions = c.args.state.now.cells.sessions in
+    let none : UserSet = record { bits = 0 } in
+    let e : c.fold.result ≡ fold with_owner c.empty.result (filter (has_active c.args.role) sessions) =
+    folded with_owner c.empty.result c.fold.result c.fold.ensures.ran
+    (YieldsList-from_filter _ (has_active c.args.role) (YieldsList-from_slice sessions (cc)) c.filter.ensures.closure (λ x b q k. search (rules, tests)))
+    (λ a x b f' k. search (rules, tests)) in
+    ap (λ (s : UserSet). has s.bits v) (e ∙ ap (λ (s : UserSet). fold with_owner s (filter (has_active c.args.role) sessions)) c.empty.ensures.value) ∙ owners sessions none c.args.role v l
+    ∙ ap (λ b. b || has (active_in (User v) sessions) c.args.role) (has-zero v)
