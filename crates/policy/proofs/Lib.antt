@@ -1,6 +1,7 @@
 pub mod Bare
 pub mod Closing
 pub mod Drafts
+pub mod Finding
 pub mod Keeping
 pub mod Loops
 pub mod Members

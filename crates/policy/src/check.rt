@@ -8,7 +8,7 @@ ghost use Rattle.policy.specs.Verdicts.{number_of};
 use crate::approved::Approved;
 use crate::checked::Checked;
 use crate::draft::Draft;
-use crate::questions::vet_by;
+use crate::questions::Questions;
 use crate::seniority::Seniority;
 use crate::verdict::Verdict;
 
@@ -40,7 +40,11 @@ impl Checked {
         ensures policy { self.new.policy.draft.tables ≡ (if nat_eq (number_of result) 0 then draft.now.tables else self.old.policy.draft.tables) }
     {
         let seniority = Seniority::of(draft);
-        let verdict = vet_by(draft, &seniority);
+        let verdict = Questions {
+            tables: &draft.tables,
+            seniority: &seniority,
+        }
+        .vet();
         if verdict.is_ok() {
             self.policy = Approved {
                 draft: *draft,

@@ -7,7 +7,7 @@ pub mod checked;
 pub mod draft;
 pub mod questions;
 pub mod reading;
-mod rows;
+pub mod rows;
 pub mod seniority;
 pub mod tables;
 pub mod verdict;

@@ -1,15 +1,14 @@
-// Rows of sets: reading a member, and adding one.
-ghost use Rattle.std.specs.Prelude.{◌≡◌, ◌<◌, Some, slice_set};
-ghost use Rattle.policy.specs.Entries.{holds};
+// Rows: reading an entry, and adding a member or a limit.
+ghost use Rattle.std.specs.Prelude.{◌≡◌, ◌<◌, Some, slice_index_or, slice_set};
 ghost use Rattle.policy.specs.Updates.{with_role, with_pair, with_user, with_users};
 
 use sets::{RoleSet, UserSet};
 
-// Whether the row at a place has the role; past the rows there is none.
-pub(crate) fn row_holds(rows: &[RoleSet; 32], at: u8, role: u8) -> bool
-    ensures { result ≡ holds rows.now at role }
+// The entry at a place, or the other value past the end.
+pub fn at_or<T: Copy>(rows: &[T], at: u8, or: T) -> T
+    ensures { result ≡ slice_index_or rows.now at or }
 {
-    at < 32 && rows[at as usize].contains(role)
+    rows.get(usize::from(at)).copied().unwrap_or(or)
 }
 
 // Adds a role to the row at a place; past the rows it adds nothing.

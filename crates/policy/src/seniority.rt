@@ -5,7 +5,7 @@ ghost use Rattle.policy.specs.Entries.{holds};
 ghost use Rattle.policy.specs.Seniority.{extended, gathered, closure, only_itself, spread_rows, TellsSeniority};
 
 use crate::draft::Draft;
-use crate::rows::row_holds;
+use crate::rows::at_or;
 use sets::RoleSet;
 
 // For each role, the roles that it is senior to: itself, and all that it inherits step by step.
@@ -32,7 +32,7 @@ impl Seniority {
     pub fn is_senior(&self, senior: u8, junior: u8) -> bool
         ensures { result ≡ holds self.now.rows senior junior }
     {
-        row_holds(&self.rows, senior, junior)
+        at_or(&self.rows, senior, RoleSet::empty()).contains(junior)
     }
 
     // The roles that some role of the set is senior to.

@@ -1,4 +1,8 @@
 // The plain tables of a policy, one struct for each concern; a policy is their product.
+ghost use Rattle.std.specs.Prelude.{◌≡◌, [], slice_index_or};
+ghost use Rattle.policy.specs.Entries.{no_roles, no_users};
+
+use crate::rows::at_or;
 use sets::{RoleSet, UserSet};
 
 // How many users, roles and sessions there are, each numbered from 0.
@@ -21,10 +25,30 @@ pub struct RoleConflicts {
     pub partners: [RoleSet; 32],
 }
 
+impl RoleConflicts {
+    // The roles in conflict with this one.
+    pub fn of(&self, role: u8) -> RoleSet
+        ensures { result ≡ slice_index_or self.now.partners role no_roles }
+    {
+        at_or(&self.partners, role, RoleSet::empty())
+    }
+}
+
 // Unordered pairs of users for a role, stored both ways: for each role and user, the users in conflict with that user.
 #[derive(Clone, Copy)]
 pub struct UserConflicts {
     pub partners: [[UserSet; 64]; 32],
+}
+
+impl UserConflicts {
+    // The users in conflict with this one for a role.
+    pub fn of(&self, role: u8, user: u8) -> UserSet
+        ensures { result ≡ slice_index_or (slice_index_or self.now.partners role []) user no_users }
+    {
+        self.partners
+            .get(usize::from(role))
+            .map_or(UserSet::empty(), |row| at_or(row, user, UserSet::empty()))
+    }
 }
 
 // The four limits; none where no record set one.

@@ -7,5 +7,5 @@ use Rattle.policy.proofs.checked.Checked.check.Goals as goal
 pub invariant_of-self : goal.invariant_of-self
 invariant_of-self c = record {
   closed = λ a. ap (λ (rows : List RoleSet). (get_or rows a no_roles).bits) c.of-seniority.ensures.value;
-  passes = passes c.args.draft.now _ c.vet_by-verdict.ensures (sym c.is_ok.ensures.value ∙ c.if-is_ok.true);
+  passes = passes c.args.draft.now _ c.vet-verdict.ensures (sym c.is_ok.ensures.value ∙ c.if-is_ok.true);
 }

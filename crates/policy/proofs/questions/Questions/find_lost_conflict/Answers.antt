@@ -5,7 +5,7 @@ use Rattle.sets.proofs.First.{none_more, none_end, found_here}
 use Rattle.policy.specs.declared.verdict.Failure.{Failure}
 use Rattle.policy.specs.declared.verdict.Failure.TheVariants.{LostConflict}
 use Rattle.policy.specs.Search.{lost_conflict_at}
-use Rattle.policy.proofs.questions.find_lost_conflict.Goals as goal
+use Rattle.policy.proofs.questions.Questions.find_lost_conflict.Goals as goal
 
 pub loop-senior-init : goal.loop-senior-init
 unfolding first_of
@@ -21,28 +21,28 @@ loop-other-init c = refl
 
 pub loop-other-preserved : goal.loop-other-preserved
 loop-other-preserved c =
-    none_more c.loop-other.other (lost_conflict_at c.args.seniority.now.rows c.args.draft.now.tables c.loop-senior.senior c.loop-junior.junior) c.loop-other.invariant
+    none_more c.loop-other.other (lost_conflict_at c.args.self.now.seniority.now.rows c.args.self.now.tables.now c.loop-senior.senior c.loop-junior.junior) c.loop-other.invariant
     (cond-false _ (Some (LostConflict c.loop-senior.senior c.loop-junior.junior c.loop-other.other)) None (sym c.if-is_lost_conflict.ensures))
 
 pub loop-junior-preserved : goal.loop-junior-preserved
 loop-junior-preserved c =
-    let n = c.args.draft.now.tables.sizes.roles in
-    let at : ℕ → ℕ → Option Failure = lost_conflict_at c.args.seniority.now.rows c.args.draft.now.tables c.loop-senior.senior in
+    let n = c.args.self.now.tables.now.sizes.roles in
+    let at : ℕ → ℕ → Option Failure = lost_conflict_at c.args.self.now.seniority.now.rows c.args.self.now.tables.now c.loop-senior.senior in
     let j = c.loop-junior.junior in
     none_more j (λ b. first_of n (at b)) c.loop-junior.invariant (none_end n (at j) c.loop-other.other c.loop-other-test.false c.loop-other.invariant)
 
 pub loop-senior-preserved : goal.loop-senior-preserved
 loop-senior-preserved c =
-    let n = c.args.draft.now.tables.sizes.roles in
-    let at : ℕ → ℕ → ℕ → Option Failure = lost_conflict_at c.args.seniority.now.rows c.args.draft.now.tables in
+    let n = c.args.self.now.tables.now.sizes.roles in
+    let at : ℕ → ℕ → ℕ → Option Failure = lost_conflict_at c.args.self.now.seniority.now.rows c.args.self.now.tables.now in
     let i = c.loop-senior.senior in
     none_more i (λ a. first_of n (λ b. first_of n (at a b))) c.loop-senior.invariant
     (none_end n (λ b. first_of n (at i b)) c.loop-junior.junior c.loop-junior-test.false c.loop-junior.invariant)
 
 pub returns-then-is_lost_conflict : goal.returns-then-is_lost_conflict
 returns-then-is_lost_conflict c =
-    let n = c.args.draft.now.tables.sizes.roles in
-    let at : ℕ → ℕ → ℕ → Option Failure = lost_conflict_at c.args.seniority.now.rows c.args.draft.now.tables in
+    let n = c.args.self.now.tables.now.sizes.roles in
+    let at : ℕ → ℕ → ℕ → Option Failure = lost_conflict_at c.args.self.now.seniority.now.rows c.args.self.now.tables.now in
     let a = c.loop-senior.senior in
     let b = c.loop-junior.junior in
     let x = LostConflict a b c.loop-other.other in
