@@ -1,36 +1,57 @@
--- The steps of the loops that close the hierarchy.
-use Rattle.std.proofs.Common.{◌≡◌, ℕ, ◌+◌, ◌<◌, ◌≤◌, true, false, List, ◌++◌, map, length, get_or, take, drop, set, sym, ap, ◌∙◌, add-one, arith}
-use Rattle.std.proofs.lemmas.List.Edits.{map_over_more}
-use Rattle.std.proofs.lemmas.List.{get_or_default, take_all, drop_all, append-nil, length-append, length-map, length-take, length-drop}
-use Rattle.std.proofs.lemmas.Bool.{cond-true, cond-false}
+-- What the chains and the loop that close the hierarchy give.
+use Rattle.std.proofs.Common.{◌≡◌, ℕ, zero, suc, ◌+◌, ◌<◌, ◌≤◌, Bool, true, false, cond, List, ◌∷◌, map, length, get_or, sym, refl, ap, ◌∙◌, subst, inl, inr, add-one, arith}
+use Rattle.std.proofs.lemmas.List.{length-map, get_or-map}
+use Rattle.std.proofs.lemmas.List.FromFn.{fill_by_all}
+use Rattle.std.proofs.lemmas.Bool.{cases_eq, cond-true, cond-false}
+use Rattle.std.specs.Array.{MapsFrom, IsMapOf}
+use Rattle.std.specs.Fn.{Called}
+use Rattle.std.specs.List.{filter, fold, range_with_len}
+use denote.Param.Members.{Mut}
 use Rattle.sets.specs.declared.roles.RoleSet.{RoleSet}
 use Rattle.sets.specs.Sets.{has, union}
 use Rattle.policy.specs.Entries.{no_roles}
 use Rattle.policy.specs.Seniority.{gathered, spread_rows, closed_below}
 
--- a chosen role adds its row, another nothing
-pub gather-row : (rows : List RoleSet) (chosen : RoleSet) (role : ℕ) (all : RoleSet) → has chosen.bits role ≡ true
-    → all ≡ record { bits = gathered rows chosen role }
-    → ◌≡◌ {A = RoleSet} (record { bits = union all.bits (get_or rows role no_roles).bits }) (record { bits = gathered rows chosen (role + 1) })
-unfolding gathered
-gather-row rows chosen role all h e =
-    ap {B = RoleSet} (λ (s : RoleSet). record { bits = union s.bits (get_or rows role no_roles).bits }) e
-    ∙ ap {B = RoleSet} (λ (n : ℕ). record { bits = n }) (sym (cond-true (has chosen.bits role) (union before row) before h)
-    ∙ ap (gathered rows chosen) (sym (add-one role)))
-  where
-    before : ℕ
-    before = gathered rows chosen role
+-- the rows of the chosen roles from a on, added to those below a
+module _ (rows : List RoleSet) (chosen : RoleSet) where
+  abbrev pub add_row : RoleSet → ℕ → RoleSet
+  add_row all k = record { bits = union all.bits (get_or rows k no_roles).bits }
 
-    row : ℕ
-    row = (get_or rows role no_roles).bits
+  abbrev so_far : ℕ → RoleSet
+  so_far a = record { bits = gathered rows chosen a }
 
-pub gather_none : (rows : List RoleSet) (chosen : RoleSet) (role : ℕ) (all : RoleSet) → has chosen.bits role ≡ false
-    → all ≡ record { bits = gathered rows chosen role } → all ≡ record { bits = gathered rows chosen (role + 1) }
-unfolding gathered
-gather_none rows chosen role all h e =
-    e ∙ ap {B = RoleSet} (λ (n : ℕ). record { bits = n })
-    (sym (cond-false (has chosen.bits role) (union (gathered rows chosen role) (get_or rows role no_roles).bits) (gathered rows chosen role) h)
-    ∙ ap (gathered rows chosen) (sym (add-one role)))
+  one_row : (a : ℕ) (rest : List ℕ) (b : Bool) → has chosen.bits a ≡ b → fold add_row (so_far a) (cond b (a ∷ rest) rest) ≡ fold add_row (so_far (a + 1)) rest
+  unfolding gathered
+  one_row a rest true h =
+      ap (λ (s : RoleSet). fold add_row s rest) (ap {B = RoleSet} (λ (n : ℕ). record { bits = n })
+      (sym (cond-true (has chosen.bits a) (add_row (so_far a) a).bits (gathered rows chosen a) h) ∙ ap (gathered rows chosen) (sym (add-one a))))
+  one_row a rest false h =
+      ap (λ (s : RoleSet). fold add_row s rest) (ap {B = RoleSet} (λ (n : ℕ). record { bits = n })
+      (sym (cond-false (has chosen.bits a) (add_row (so_far a) a).bits (gathered rows chosen a) h) ∙ ap (gathered rows chosen) (sym (add-one a))))
+
+  gathered_from : (a n : ℕ) → fold add_row (so_far a) (filter (has chosen.bits) (range_with_len a n)) ≡ so_far (a + n)
+  gathered_from a zero = ap so_far (omega arith)
+  gathered_from a (suc n) = one_row a (filter (has chosen.bits) (range_with_len (a + 1) n)) (has chosen.bits a) refl ∙ gathered_from (a + 1) n ∙ ap so_far (omega arith)
+
+  pub gathered_all : (start : RoleSet) (n : ℕ) → start ≡ record { bits = 0 } → fold add_row start (filter (has chosen.bits) (range_with_len 0 n)) ≡ record { bits = gathered rows chosen n }
+  unfolding gathered
+  gathered_all start n e = ap (λ (s : RoleSet). fold add_row s (filter (has chosen.bits) (range_with_len 0 n))) e ∙ gathered_from 0 n ∙ ap so_far (omega arith)
+
+-- `map` of an array, where the closure answers h of each element, and stays as it is
+module _ {F A B : Type 0} (g : Mut F (A × Unit {0}) B) (f : F) (h : A → B) (does : (x : A) (r : B) (q : F) → Called g f (x, tt) r q → (q ≡ f) × (r ≡ h x)) (xs : List A) (ys : List B) (d : A) (e : B) where
+  mapped_at : (i n : ℕ) (q : F) → q ≡ f → MapsFrom g q xs ys i n → (k : ℕ) → i ≤ k → k < i + n → get_or ys k e ≡ h (get_or xs k d)
+  mapped_at i zero q p m k lo hi = absurd (omega arith)
+  mapped_at i (suc n) q p (r, x, y, is_x, is_y, call, rest) k lo hi =
+      let now = does x y r (subst (λ c. Called g c (x, tt) y r) p call) in
+      elim (cases_eq k i) [
+        | inl same ↦ ap (λ j. get_or ys j e) same ∙ is_y.1 e ∙ now.1 ∙ ap h (sym (is_x.1 d)) ∙ ap (λ j. h (get_or xs j d)) (sym same)
+        | inr ne ↦ mapped_at (i + 1) n r now.0 rest k (omega arith) (omega arith)
+      ]
+
+  pub map_from_array : (n : ℕ) → length xs ≡ n → IsMapOf g f xs ys n → ys ≡ map h xs
+  map_from_array n l m =
+      fill_by_all (λ k. h (get_or xs k d)) ys n e m.long (λ k lo. mapped_at 0 n f refl m.each k (omega arith) (omega arith))
+      ∙ sym (fill_by_all (λ k. h (get_or xs k d)) (map h xs) n e (length-map xs h ∙ l) (λ k lo. get_or-map h xs k d e (omega arith)))
 
 -- one role more inherits
 pub close_more : (juniors rows next : List RoleSet) (role below : ℕ) → rows ≡ closed_below role juniors
@@ -40,16 +61,3 @@ close_more juniors rows next role below er eb en =
     en ∙ ap (λ (b : ℕ). spread_rows role b rows) eb
     ∙ ap (λ (r : List RoleSet). spread_rows role (gathered r (get_or juniors role no_roles) 32) r) er
     ∙ ap (λ (m : ℕ). closed_below m juniors) (sym (add-one role))
-
--- one row more is extended
-pub map_row : (f : RoleSet → RoleSet) (rows next : List RoleSet) (at : ℕ) → length rows ≡ 32 → at < 32
-    → next ≡ map f (take at rows) ++ drop at rows → set next at (f (get_or next at no_roles)) ≡ map f (take (at + 1) rows) ++ drop (at + 1) rows
-map_row f rows next at len l e =
-    map_over_more f rows next at (get_or next at no_roles) (omega arith) e
-    (get_or_default next at no_roles (get_or next at no_roles) (rw e (simp (length-append, length-map, length-take, length-drop) (omega arith))))
-
-pub map-end : (f : RoleSet → RoleSet) (rows next : List RoleSet) (at : ℕ) → length rows ≡ 32 → 32 ≤ at
-    → next ≡ map f (take at rows) ++ drop at rows → next ≡ map f rows
-map-end f rows next at len l e =
-    e ∙ ap (λ (r : List RoleSet). map f (take at rows) ++ r) (drop_all at rows (omega arith)) ∙ append-nil (map f (take at rows))
-    ∙ ap (map f) (take_all at rows (omega arith))

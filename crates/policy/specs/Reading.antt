@@ -19,31 +19,11 @@ same false b = not b
 -- is it a sizes record, and is it the end record
 abbrev pub is_sizes : Entry → Bool
 is_sizes (Sizes u r n) = true
-is_sizes (Inherits a b) = false
-is_sizes (StaticPair a b) = false
-is_sizes (DynamicPair a b) = false
-is_sizes (ConflictingUsers r u v) = false
-is_sizes (LimitOfRoleUsers r n) = false
-is_sizes (LimitOfUserRoles u n) = false
-is_sizes (LimitOfUserActive u n) = false
-is_sizes (LimitOfRoleSessions r n) = false
-is_sizes (Required k a b) = false
-is_sizes (Dependency a b) = false
-is_sizes End = false
+is_sizes _ = false
 
 abbrev pub is_end : Entry → Bool
-is_end (Sizes u r n) = false
-is_end (Inherits a b) = false
-is_end (StaticPair a b) = false
-is_end (DynamicPair a b) = false
-is_end (ConflictingUsers r u v) = false
-is_end (LimitOfRoleUsers r n) = false
-is_end (LimitOfUserRoles u n) = false
-is_end (LimitOfUserActive u n) = false
-is_end (LimitOfRoleSessions r n) = false
-is_end (Required k a b) = false
-is_end (Dependency a b) = false
 is_end End = true
+is_end _ = false
 
 -- are all numbers in range: the sizes in their limits, users and roles below the sizes, a condition from 1 to 6
 abbrev pub in_range : Counts → Entry → Bool
@@ -62,33 +42,17 @@ in_range s End = true
 
 -- are the last two different, where they have to be
 abbrev pub differ : Entry → Bool
-differ (Sizes u r n) = true
-differ (Inherits a b) = true
-differ (StaticPair a b) = true
-differ (DynamicPair a b) = true
 differ (ConflictingUsers r u v) = not (u == v)
-differ (LimitOfRoleUsers r n) = true
-differ (LimitOfUserRoles u n) = true
-differ (LimitOfUserActive u n) = true
-differ (LimitOfRoleSessions r n) = true
-differ (Required k a b) = true
 differ (Dependency a b) = not (a == b)
-differ End = true
+differ _ = true
 
 -- had the subject of a limit none
 abbrev pub unlimited : Limits → Entry → Bool
-unlimited l (Sizes u r n) = true
-unlimited l (Inherits a b) = true
-unlimited l (StaticPair a b) = true
-unlimited l (DynamicPair a b) = true
-unlimited l (ConflictingUsers r u v) = true
 unlimited l (LimitOfRoleUsers r n) = not (is_some (slice_index_or l.users r None))
 unlimited l (LimitOfUserRoles u n) = not (is_some (slice_index_or l.roles u None))
 unlimited l (LimitOfUserActive u n) = not (is_some (slice_index_or l.active u None))
 unlimited l (LimitOfRoleSessions r n) = not (is_some (slice_index_or l.sessions r None))
-unlimited l (Required k a b) = true
-unlimited l (Dependency a b) = true
-unlimited l End = true
+unlimited l _ = true
 
 -- what an entry enters; a sizes record begins anew
 abbrev pub entered : Tables → Entry → Tables

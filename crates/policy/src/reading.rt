@@ -5,7 +5,7 @@ ghost use Rattle.policy.specs.Updates.{only, bare, with_role};
 ghost use Rattle.policy.specs.Reading.{is_sizes, is_end, in_range, differ, unlimited, entered, applied, reading, answered, drafted};
 
 use crate::draft::Draft;
-use crate::rows::{add_pair, add_role, add_users, set_limit};
+use crate::rows::{add_pair, add_role, add_users, at_or, put};
 use crate::tables::{
     Dependencies, Hierarchy, Limits, Requirements, RoleConflicts, Sizes, Tables, UserConflicts,
 };
@@ -107,44 +107,32 @@ fn differs(entry: Entry) -> bool
     }
 }
 
-// Whether the subject has no limit.
-fn is_free(limits: &[Option<u8>], subject: u8) -> bool
-    ensures { result ≡ not (is_some (slice_index_or limits.now subject None)) }
-{
-    if (subject as usize) < limits.len() {
-        limits[subject as usize].is_none()
-    } else {
-        true
-    }
-}
-
 // Whether the subject of a limit had none.
 fn is_unlimited(limits: &Limits, entry: Entry) -> bool
     ensures { result ≡ unlimited limits.now entry }
 {
-    match entry {
-        Entry::LimitOfRoleUsers { role, .. } => is_free(&limits.users, role),
-        Entry::LimitOfUserRoles { user, .. } => is_free(&limits.roles, user),
-        Entry::LimitOfUserActive { user, .. } => is_free(&limits.active, user),
-        Entry::LimitOfRoleSessions { role, .. } => is_free(&limits.sessions, role),
-        _ => true,
-    }
+    let limit = match entry {
+        Entry::LimitOfRoleUsers { role, .. } => at_or(&limits.users, role, None),
+        Entry::LimitOfUserRoles { user, .. } => at_or(&limits.roles, user, None),
+        Entry::LimitOfUserActive { user, .. } => at_or(&limits.active, user, None),
+        Entry::LimitOfRoleSessions { role, .. } => at_or(&limits.sessions, role, None),
+        _ => None,
+    };
+    limit.is_none()
 }
 
 // Adds a role to those that the condition requires of another.
 fn add_required(requirements: &mut Requirements, condition: u8, role: u8, required: u8)
-    requires { (1 ≤ condition) × (condition ≤ 6) }
     ensures { requirements.new ≡ record { sets = slice_set requirements.old.sets (condition - 1) (with_role (slice_index_or requirements.old.sets (condition - 1) []) role required) } }
 {
-    let at = (condition - 1) as usize;
-    let mut rows = requirements.sets[at];
+    let at = condition.saturating_sub(1);
+    let mut rows = at_or(&requirements.sets, at, [RoleSet::empty(); 32]);
     add_role(&mut rows, role, required);
-    requirements.sets[at] = rows;
+    put(&mut requirements.sets, at, rows);
 }
 
 // Enters what the entry says; a sizes record begins anew.
 fn enter(tables: &mut Tables, entry: Entry)
-    requires { (in_range tables.old.sizes entry ≡ true) × ((tables.old.sizes.roles ≤ 32) × (tables.old.sizes.users ≤ 64)) }
     ensures { tables.new ≡ entered tables.old entry }
 {
     match entry {
@@ -169,17 +157,17 @@ fn enter(tables: &mut Tables, entry: Entry)
             first,
             second,
         } => add_users(&mut tables.conflicting.partners, role, first, second),
-        Entry::LimitOfRoleUsers { role, limit } => set_limit(&mut tables.limits.users, role, limit),
-        Entry::LimitOfUserRoles { user, limit } => set_limit(&mut tables.limits.roles, user, limit),
-        Entry::LimitOfUserActive { user, limit } => set_limit(
+        Entry::LimitOfRoleUsers { role, limit } => put(&mut tables.limits.users, role, Some(limit)),
+        Entry::LimitOfUserRoles { user, limit } => put(&mut tables.limits.roles, user, Some(limit)),
+        Entry::LimitOfUserActive { user, limit } => put(
             &mut tables.limits.active,
             user,
-            limit,
+            Some(limit),
         ),
-        Entry::LimitOfRoleSessions { role, limit } => set_limit(
+        Entry::LimitOfRoleSessions { role, limit } => put(
             &mut tables.limits.sessions,
             role,
-            limit,
+            Some(limit),
         ),
         Entry::Required {
             condition,
@@ -193,7 +181,6 @@ fn enter(tables: &mut Tables, entry: Entry)
 
 // The questions of a whole record at a place, in their order; then what it says is entered.
 fn apply(tables: &mut Tables, entry: Entry, at: usize) -> Result<(), Fault>
-    requires { (tables.old.sizes.roles ≤ 32) × (tables.old.sizes.users ≤ 64) }
     ensures { MatchResult result (λ _. applied tables.old entry at ≡ Ok tables.new) (λ f. applied tables.old entry at ≡ Err f) }
 {
     if is_sizes(entry) != (at == 0) {

@@ -1,5 +1,5 @@
 // Rows: reading an entry, and adding a member or a limit.
-ghost use Rattle.std.specs.Prelude.{◌≡◌, ◌<◌, Some, slice_index_or, slice_set};
+ghost use Rattle.std.specs.Prelude.{◌≡◌, slice_index_or, slice_set};
 ghost use Rattle.policy.specs.Updates.{with_role, with_pair, with_user, with_users};
 
 use sets::{RoleSet, UserSet};
@@ -11,13 +11,23 @@ pub fn at_or<T: Copy>(rows: &[T], at: u8, or: T) -> T
     rows.get(usize::from(at)).copied().unwrap_or(or)
 }
 
-// Adds a role to the row at a place; past the rows it adds nothing.
+// Writes the entry at a place; past the end it writes nothing.
+pub(crate) fn put<T: Copy>(rows: &mut [T], at: u8, entry: T)
+    ensures { rows.new ≡ slice_set rows.old at entry }
+{
+    let at = usize::from(at);
+    // Kept: `get_mut` in place of this test does not prove, since no clause ties what it lends to the slice after it.
+    if at < rows.len() {
+        rows[at] = entry;
+    }
+}
+
+// Adds a role to the row at a place.
 pub(crate) fn add_role(rows: &mut [RoleSet; 32], at: u8, role: u8)
     ensures { rows.new ≡ with_role rows.old at role }
 {
-    if at < 32 {
-        rows[at as usize] = rows[at as usize].with(role);
-    }
+    let row = at_or(rows, at, RoleSet::empty());
+    put(rows, at, row.with(role));
 }
 
 // Adds an unordered pair of roles, both ways.
@@ -30,26 +40,18 @@ pub(crate) fn add_pair(rows: &mut [RoleSet; 32], first: u8, second: u8)
 
 // Adds a user to the row of a role and a user.
 fn add_user(rows: &mut [[UserSet; 64]; 32], role: u8, user: u8, other: u8)
-    requires { (role < 32) × (user < 64) }
     ensures { rows.new ≡ with_user rows.old role user other }
 {
-    rows[role as usize][user as usize] = rows[role as usize][user as usize].with(other);
+    let mut row = at_or(rows, role, [UserSet::empty(); 64]);
+    let users = at_or(&row, user, UserSet::empty());
+    put(&mut row, user, users.with(other));
+    put(rows, role, row);
 }
 
 // Adds an unordered pair of users for a role, both ways.
 pub(crate) fn add_users(rows: &mut [[UserSet; 64]; 32], role: u8, first: u8, second: u8)
-    requires { (role < 32) × ((first < 64) × (second < 64)) }
     ensures { rows.new ≡ with_users rows.old role first second }
 {
     add_user(rows, role, first, second);
     add_user(rows, role, second, first);
-}
-
-// Sets the limit of a subject; past the limits it sets nothing.
-pub(crate) fn set_limit(limits: &mut [Option<u8>], subject: u8, limit: u8)
-    ensures { limits.new ≡ slice_set limits.old subject (Some limit) }
-{
-    if (subject as usize) < limits.len() {
-        limits[subject as usize] = Some(limit);
-    }
 }

@@ -7,6 +7,7 @@ ghost use Rattle.policy.specs.Seniority.{extended, gathered, closure, only_itsel
 use crate::draft::Draft;
 use crate::rows::at_or;
 use sets::RoleSet;
+use std::array;
 
 // For each role, the roles that it is senior to: itself, and all that it inherits step by step.
 #[derive(Clone, Copy)]
@@ -22,7 +23,7 @@ impl Seniority {
     {
         let mut rows = alone();
         for role in 0..32u8 {
-            let below = gather(&rows, draft.tables.hierarchy.juniors[role as usize]);
+            let below = gather(&rows, draft.tables.hierarchy.of(role));
             rows = spread(&rows, role, below);
         }
         Seniority { rows }
@@ -47,24 +48,17 @@ impl Seniority {
 fn alone() -> [RoleSet; 32]
     ensures { result ≡ map only_itself (range_with_len 0 32) }
 {
-    let mut rows = [RoleSet::empty(); 32];
-    for role in 0..32u8 {
-        rows[role as usize] = RoleSet::empty().with(role);
-    }
-    rows
+    array::from_fn(|role| RoleSet::empty().with(role as u8))
 }
 
 // The members of the rows of the chosen roles.
 pub fn gather(rows: &[RoleSet; 32], chosen: RoleSet) -> RoleSet
     ensures { result ≡ record { bits = gathered rows.now chosen 32 } }
 {
-    let mut all = RoleSet::empty();
-    for role in 0..32u8 {
-        if chosen.contains(role) {
-            all = all.union(rows[role as usize]);
-        }
-    }
-    all
+    (0..32u8).filter(|&role| chosen.contains(role)).fold(
+        RoleSet::empty(),
+        |all, role| all.union(at_or(rows, role, RoleSet::empty())),
+    )
 }
 
 // The row with the roles below `role`, where it has that role.
@@ -82,9 +76,5 @@ fn extend(row: RoleSet, role: u8, below: RoleSet) -> RoleSet
 fn spread(rows: &[RoleSet; 32], role: u8, below: RoleSet) -> [RoleSet; 32]
     ensures { result ≡ spread_rows role below.bits rows.now }
 {
-    let mut next = *rows;
-    for at in 0..32usize {
-        next[at] = extend(next[at], role, below);
-    }
-    next
+    rows.map(|row| extend(row, role, below))
 }

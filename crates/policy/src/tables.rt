@@ -19,6 +19,15 @@ pub struct Hierarchy {
     pub juniors: [RoleSet; 32],
 }
 
+impl Hierarchy {
+    // The roles that this one inherits directly.
+    pub fn of(&self, role: u8) -> RoleSet
+        ensures { result ≡ slice_index_or self.now.juniors role no_roles }
+    {
+        at_or(&self.juniors, role, RoleSet::empty())
+    }
+}
+
 // Unordered pairs of roles, stored both ways: for each role, those in conflict with it.
 #[derive(Clone, Copy)]
 pub struct RoleConflicts {

@@ -1,20 +1,15 @@
-use Rattle.std.proofs.Common.{sym, ◌∙◌}
-use Rattle.policy.specs.Seniority.{gathered}
-use Rattle.policy.proofs.Loops.{gather-row, gather_none}
+use Rattle.std.proofs.Common.{◌∙◌, refl, rules, tests}
+use Rattle.std.proofs.lemmas.Iterator.{YieldsList-from_range}
+use Rattle.std.proofs.lemmas.Iterator.Consumers.{YieldsList-from_filter, fold_from_yields_List}
+use Rattle.sets.specs.Sets.{has}
+use Rattle.policy.proofs.Loops.{add_row, gathered_all}
 use Rattle.policy.proofs.seniority.gather.Goals as goal
-use Rattle.policy.proofs.seniority.gather.Goals.{then-contains, else-contains}
 
-pub loop-role-init : goal.loop-role-init
-unfolding gathered
-loop-role-init c = c.empty-all.ensures.value
-
-pub loop-role-preserved : goal.loop-role-preserved
-loop-role-preserved c =
-    let before = c.loop-role.invariant in
+pub returns : goal.returns
+returns c =
     let rows = c.args.rows.now in
     let chosen = c.args.chosen in
-    let role = c.loop-role.role in
-    elim c.if-contains.branch [
-      | then-contains w ↦ w.all-is ∙ w.union-all.ensures.value ∙ gather-row rows chosen role c.loop-role.all (sym w.if-contains.ensures) before
-      | else-contains w ↦ w.all-is ∙ gather_none rows chosen role c.loop-role.all (sym w.if-contains.ensures) before
-    ]
+    fold_from_yields_List _ (add_row rows chosen) _ _ c.fold.ensures.ran
+    (YieldsList-from_filter _ (has chosen.bits) (YieldsList-from_range 0 32 32 c.filter.ensures.source refl) c.filter.ensures.closure (λ x b q k. search (rules, tests)))
+    (λ a x b q k. search (rules, tests))
+    ∙ gathered_all rows chosen _ 32 c.empty.ensures.value

@@ -1,6 +1,6 @@
 use Rattle.std.proofs.Common.{◌≡◌, ℕ, sym, ap, ◌∙◌, subst, arith}
 use Rattle.sets.specs.declared.roles.RoleSet.{RoleSet}
-use Rattle.policy.specs.Seniority.{closed_below, closure, TellsSeniority}
+use Rattle.policy.specs.Seniority.{gathered, closed_below, closure, TellsSeniority}
 use Rattle.policy.proofs.Closing.{closure_tells}
 use Rattle.policy.proofs.Loops.{close_more}
 use Rattle.policy.proofs.seniority.Seniority.of.Goals as goal
@@ -12,7 +12,7 @@ loop-role-init c = c.alone-rows.ensures
 pub loop-role-preserved : goal.loop-role-preserved
 loop-role-preserved c =
     close_more c.args.draft.now.tables.hierarchy.juniors c.loop-role.rows c.spread-rows.result c.loop-role.role c.gather-below.result.bits
-    c.loop-role.invariant (ap (λ (s : RoleSet). s.bits) c.gather-below.ensures) c.spread-rows.ensures
+    c.loop-role.invariant (ap (λ (s : RoleSet). s.bits) c.gather-below.ensures ∙ ap (λ (s : RoleSet). gathered c.loop-role.rows s 32) c.of.ensures) c.spread-rows.ensures
 
 pub returns : goal.returns
 returns c =
