@@ -6,12 +6,13 @@ ghost use Rattle.families.specs.Family.{Exact, clear_of, at_top};
 ghost use Rattle.families.specs.Limits.{cardinality_law};
 ghost use Rattle.std.proofs.Common.{rules};
 
-use crate::family::{at_top, none_of, value_at};
+use crate::family::{at_top, none_of};
 use monitor::answer::Reason;
 use monitor::asked::Asked;
 use monitor::cells::{Cells, Whose};
 use monitor::rule::Rule;
 use monitor::views::{active_among, using_among};
+use policy::rows::at_or;
 use policy::tables::Tables;
 use records::event::Event;
 use sets::RoleSet;
@@ -78,7 +79,7 @@ fn users_of(cells: &Cells, role: u8) -> u32
 fn roles_of(cells: &Cells, user: u8) -> u32
     ensures { result ≡ roles_of cells.now user }
 {
-    value_at(&cells.authorised, user, RoleSet::empty()).count()
+    at_or(&cells.authorised, user, RoleSet::empty()).count()
 }
 
 // How many different roles are active for the user, over all their sessions.
@@ -100,7 +101,7 @@ fn over_users(tables: &Tables, cells: &Cells) -> Option<u8>
     ensures { result ≡ over_users tables.now cells.now }
 {
     (0..32u8).find(|role| !is_within(
-        value_at(&tables.limits.users, *role, None),
+        at_or(&tables.limits.users, *role, None),
         users_of(cells, *role),
     ))
 }
@@ -122,7 +123,7 @@ fn over_assigned(tables: &Tables, cells: &Cells, user: u8) -> Result<(), Breach>
 {
     none_of(over_users(tables, cells)).map_err(|role| Breach::UsersOfRole { role })?;
     keep(
-        value_at(&tables.limits.roles, user, None),
+        at_or(&tables.limits.roles, user, None),
         roles_of(cells, user),
         Breach::RolesOfUser { user },
     )
@@ -133,12 +134,12 @@ fn over_activated(tables: &Tables, cells: &Cells, user: u8, role: u8) -> Result<
     ensures { result ≡ clear_of (over_activated tables.now cells.now user role) }
 {
     keep(
-        value_at(&tables.limits.active, user, None),
+        at_or(&tables.limits.active, user, None),
         active_of(cells, user),
         Breach::ActiveOfUser { user },
     )?;
     keep(
-        value_at(&tables.limits.sessions, role, None),
+        at_or(&tables.limits.sessions, role, None),
         sessions_of(cells, role),
         Breach::SessionsOfRole { role },
     )

@@ -1,5 +1,5 @@
 // What the four families have in common.
-ghost use Rattle.std.specs.Prelude.{◌≡◌, slice_index_or};
+ghost use Rattle.std.specs.Prelude.{◌≡◌};
 ghost use Rattle.families.specs.Family.{clear_of, at_top};
 
 use monitor::answer::Reason;
@@ -20,11 +20,4 @@ pub(crate) fn at_top(number: u8, subject: u8) -> Reason
         subject,
         place: 1,
     }
-}
-
-// The value at a place; past the values, the one that stands for none.
-pub(crate) fn value_at<T: Copy>(values: &[T], at: u8, none: T) -> T
-    ensures { result ≡ slice_index_or values.now at none }
-{
-    values.get(usize::from(at)).copied().unwrap_or(none)
 }

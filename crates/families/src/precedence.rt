@@ -6,11 +6,12 @@ ghost use Rattle.families.specs.Precedence.{precedence, condition_number, condit
 ghost use Rattle.families.specs.Required.{precedence_law};
 ghost use Rattle.std.proofs.Common.{rules};
 
-use crate::family::{at_top, none_of, value_at};
+use crate::family::{at_top, none_of};
 use monitor::answer::Reason;
 use monitor::asked::Asked;
 use monitor::cells::{Session, Whose};
 use monitor::rule::Rule;
+use policy::rows::at_or;
 use policy::tables::Tables;
 use records::event::Event;
 use sets::RoleSet;
@@ -84,7 +85,7 @@ impl From<Lack> for Reason {
 fn required_set(tables: &Tables, condition: Condition, role: u8) -> RoleSet
     ensures { result ≡ required_set tables.now condition role }
 {
-    value_at(
+    at_or(
         &tables.requirements.sets[usize::from(condition.row())],
         role,
         RoleSet::empty(),

@@ -1,23 +1,21 @@
 // Separation of duty: static over authorised roles, dynamic over active roles, and conflicting users.
-ghost use Rattle.std.specs.Prelude.{◌≡◌, ℕ, ◌<◌, [], ◌∷◌, slice_index_or};
+ghost use Rattle.std.specs.Prelude.{◌≡◌, ℕ, ◌<◌, [], ◌∷◌};
 ghost use Rattle.std.specs.Option.{option_map};
 ghost use Rattle.sets.specs.Sets.{has};
-ghost use Rattle.policy.specs.Entries.{no_users};
 ghost use Rattle.families.specs.Family.{Exact, clear_of, at_top};
 ghost use Rattle.families.specs.Separation.{active_for, static_clash, dynamic_clash, user_clash, clash_by, clash_number, clash_subject, separation};
 ghost use Rattle.families.specs.declared.separation.Clash.TheVariants.{StaticRole, DynamicRole, ConflictingUser};
 ghost use Rattle.families.specs.Apart.{separation_law};
 ghost use Rattle.std.proofs.Common.{rules};
 
-use crate::family::{at_top, none_of, value_at};
+use crate::family::{at_top, none_of};
 use monitor::answer::Reason;
 use monitor::asked::Asked;
 use monitor::cells::Whose;
 use monitor::rule::Rule;
 use monitor::state::State;
-use policy::tables::UserConflicts;
 use records::event::Event;
-use sets::{RoleSet, UserSet};
+use sets::UserSet;
 
 // Why an event is not admitted.
 #[derive(Clone, Copy)]
@@ -60,16 +58,6 @@ impl From<Clash> for Reason {
     }
 }
 
-// The users in conflict with a user for a role.
-fn conflicting(table: &UserConflicts, role: u8, user: u8) -> UserSet
-    ensures { result ≡ slice_index_or (slice_index_or table.now.partners role []) user no_users }
-{
-    table.partners.get(usize::from(role)).map_or(
-        UserSet::empty(),
-        |users| value_at(users, user, UserSet::empty()),
-    )
-}
-
 // The users who have the role active.
 fn users_with(state: &State, role: u8) -> UserSet
     ensures { (v : ℕ) → v < 64 → has result.bits v ≡ active_for state.now.cells v role }
@@ -89,11 +77,7 @@ fn users_with(state: &State, role: u8) -> UserSet
 fn assign_clash(asked: Asked, user: u8, role: u8) -> Result<(), Clash>
     ensures { result ≡ clear_of (option_map StaticRole (static_clash asked.entry.policy.now.draft.tables asked.entry.state.now.cells user role)) }
 {
-    let partners = value_at(
-        &asked.policy.draft.tables.ssd.partners,
-        role,
-        RoleSet::empty(),
-    );
+    let partners = asked.policy.draft.tables.ssd.of(role);
     let clashing = asked.state.authorised(user).intersection(partners);
     none_of(clashing.lowest()).map_err(|role| Clash::StaticRole { role })
 }
@@ -102,11 +86,7 @@ fn assign_clash(asked: Asked, user: u8, role: u8) -> Result<(), Clash>
 fn dynamic_clash(asked: Asked, owner: u8, role: u8) -> Result<(), Clash>
     ensures { result ≡ clear_of (option_map DynamicRole (dynamic_clash asked.entry.policy.now.draft.tables asked.entry.state.now.cells owner role)) }
 {
-    let partners = value_at(
-        &asked.policy.draft.tables.dsd.partners,
-        role,
-        RoleSet::empty(),
-    );
+    let partners = asked.policy.draft.tables.dsd.of(role);
     let active = asked.state.active_in(Whose::User { user: owner });
     let clashing = active.intersection(partners);
     none_of(clashing.lowest()).map_err(|role| Clash::DynamicRole { role })
@@ -116,7 +96,7 @@ fn dynamic_clash(asked: Asked, owner: u8, role: u8) -> Result<(), Clash>
 fn user_clash(asked: Asked, owner: u8, role: u8) -> Result<(), Clash>
     ensures { result ≡ clear_of (option_map ConflictingUser (user_clash asked.entry.policy.now.draft.tables asked.entry.state.now.cells owner role)) }
 {
-    let rivals = conflicting(&asked.policy.draft.tables.conflicting, role, owner);
+    let rivals = asked.policy.draft.tables.conflicting.of(role, owner);
     let clashing = rivals.intersection(users_with(asked.state, role));
     none_of(clashing.lowest()).map_err(|user| Clash::ConflictingUser { user })
 }

@@ -13,6 +13,6 @@ returns c =
     let stands : ℕ → Bool = λ v. active_for c.args.asked.state.now.cells v c.args.role in
     let found : c.lowest.result ≡ user_clash t c.args.asked.state.now.cells c.args.owner c.args.role =
     c.lowest.ensures.value ∙ first-same 64 (has c.intersection-clashing.result.bits) (λ v. rivals v && stands v)
-    (λ v l. c.intersection-clashing.ensures.members v ∙ ap (λ (s : UserSet). has s.bits v && has c.users_with.result.bits v) c.conflicting-rivals.ensures
+    (λ v l. c.intersection-clashing.ensures.members v ∙ ap (λ (s : UserSet). has s.bits v && has c.users_with.result.bits v) c.of-rivals.ensures
     ∙ ap (λ (b : Bool). rivals v && b) (c.users_with.ensures v l)) in
     search rules
