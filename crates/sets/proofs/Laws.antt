@@ -1,10 +1,12 @@
 -- The laws of the sets, over any width. Assumes nothing.
-use Rattle.std.proofs.Common.{◌≡◌, ℕ, zero, suc, ◌+◌, ◌-◌, ◌*◌, ◌/◌, ◌%◌, ◌^◌, ◌<◌, ◌≤◌, Bool, true, false, cond, not, ◌&&◌, ◌||◌, eqb, ltb, Some, None, sym, refl, ap, ◌∙◌, inl, inr, pow-suc, one-add, arith}
+use Rattle.std.proofs.Common.{◌≡◌, ℕ, zero, suc, ◌+◌, ◌-◌, ◌*◌, ◌/◌, ◌%◌, ◌^◌, min, max, ◌<◌, ◌≤◌, Bool, true, false, cond, not, ◌&&◌, ◌||◌, eqb, ltb, Some, None, sym, refl, ap, ◌∙◌, inl, inr, pow-suc, arith}
+use Rattle.std.proofs.Math.Nat.{mod-eq_of_lt}
 use mathlib.Core.Path.{fun_ext}
-use lib.Bits.{bit_and, bit_or, or_lt, or_shr, or_mod, and_le_l, and_shr, and_mod, and_mask}
+use lib.Bits.{bit_and, bit_or, or_zero_r, or_lt, and_le_l, and_mask}
 use lib.Count.{ones, ones_step, count_trailing_zeros, under}
-use lib.Dec.{eqb-suc-suc, eqb-zero-suc, eqb-suc-zero}
-use Rattle.std.proofs.lemmas.Nat.{shr-shr, pow_pos, pow_below, one_shl}
+use Rattle.std.specs.Int.{bit_at}
+use Rattle.std.proofs.lemmas.Nat.{pow_pos, pow_below, one_shl}
+use Rattle.std.proofs.lemmas.Nat.Bits.{bit_at_lowest, bit_at-suc, bit_at-zero, bit_at-pow_same, bit_at-pow_other, bit_at_above, bit_at_or, bit_at_and, bit_at-lt, same_from_bits_below, shr_and_one}
 use Rattle.std.proofs.lemmas.Bool.{eq-eqb, ne_eqb, eqb-true, eqb-false, lt-ltb, le-ltb, cases_Bool, cases_lt, cases_eq, cond-true, cond-false, and_from, and_left, and_right, not_from_false, both_ways, and_parts}
 use Rattle.sets.specs.First.{first_below}
 use Rattle.sets.proofs.First.{First, first_never, first_is}
@@ -13,36 +15,30 @@ use Rattle.sets.specs.Sets.{has, with_member, without_member, union, intersectio
 -- bit 0
 pub has_first : (n : ℕ) → has n zero ≡ eqb (n % 2) 1
 unfolding has
-has_first n = ap (λ (m : ℕ). eqb (m % 2) 1) (omega arith)
+has_first n = ap (λ (m : ℕ). eqb m 1) (bit_at_lowest n)
 
 -- bit r + 1 is bit r of the half
 pub has-next : (n r : ℕ) → has n (suc r) ≡ has (n / 2) r
 unfolding has
-has-next n r =
-    ap (λ (m : ℕ). eqb (n / 2 ^ m % 2) 1) (sym (one-add r)) ∙ ap (λ (m : ℕ). eqb (m % 2) 1) (sym (shr-shr n 1 r))
+has-next n r = ap (λ (m : ℕ). eqb m 1) (bit_at-suc n r)
 
 -- the empty set has no member
 pub has-zero : (r : ℕ) → has 0 r ≡ false
-has-zero zero = has_first zero
-has-zero (suc r) = has-next zero r ∙ has-zero r
+unfolding has
+has-zero r = ap (λ (m : ℕ). eqb m 1) (bit_at-zero r)
 
 -- a power of two has one member
 pub has_bit : (k r : ℕ) → has (2 ^ k) r ≡ eqb r k
-has_bit zero zero = has_first 1
-has_bit zero (suc r) = has-next 1 r ∙ has-zero r ∙ sym (eqb-suc-zero r)
-has_bit (suc k) zero =
-    has_first (2 ^ suc k) ∙ ap (λ (m : ℕ). eqb m 1) (let e : 2 ^ suc k % 2 ≡ 0 = omega (arith, pow-suc 2 k) in e)
-    ∙ sym (eqb-zero-suc k)
-has_bit (suc k) (suc r) =
-    has-next (2 ^ suc k) r
-    ∙ ap (λ (m : ℕ). has m r) (let e : 2 ^ suc k / 2 ≡ 2 ^ k = omega (arith, pow-suc 2 k) in e) ∙ has_bit k r
-    ∙ sym (eqb-suc-suc r k)
+unfolding has
+has_bit k r = elim (cases_eq r k) [
+  | inl e ↦ ap (λ (m : ℕ). eqb m 1) (ap (bit_at (2 ^ k)) e ∙ bit_at-pow_same k) ∙ sym (eq-eqb r k e)
+  | inr e ↦ ap (λ (m : ℕ). eqb m 1) (bit_at-pow_other k r e) ∙ sym (ne_eqb r k e)
+]
 
 -- nothing at or past the width
 pub has_past : (w n r : ℕ) → n < 2 ^ w → w ≤ r → has n r ≡ false
-has_past zero n r h l = ap (λ (m : ℕ). has m r) (omega arith) ∙ has-zero r
-has_past (suc w) n zero h l = absurd (omega arith)
-has_past (suc w) n (suc r) h l = has-next n r ∙ has_past w (n / 2) r (omega (arith, pow-suc 2 w)) (omega arith)
+unfolding has
+has_past w n r h l = ap (λ (m : ℕ). eqb m 1) (bit_at_above n w r h l)
 
 -- the complement within the width
 pub has-not : (w n r : ℕ) → n < 2 ^ w → r < w → has (2 ^ w - 1 - n) r ≡ not (has n r)
@@ -62,12 +58,8 @@ has-not (suc w) n (suc r) h l =
 
 -- two sets of the same members are equal
 pub has_ext : (w a b : ℕ) → a < 2 ^ w → b < 2 ^ w → ((r : ℕ) → r < w → has a r ≡ has b r) → a ≡ b
-has_ext zero a b ha hb e = omega arith
-has_ext (suc w) a b ha hb e =
-    let ups : (r : ℕ) → r < w → has (a / 2) r ≡ has (b / 2) r = λ r l. sym (has-next a r) ∙ e (suc r) (omega arith) ∙ has-next b r in
-    let halves : a / 2 ≡ b / 2 = has_ext w (a / 2) (b / 2) (omega (arith, pow-suc 2 w)) (omega (arith, pow-suc 2 w)) ups in
-    let digits : a % 2 ≡ b % 2 = same (a % 2) (b % 2) (omega arith) (omega arith) (sym (has_first a) ∙ e zero (omega arith) ∙ has_first b) in
-    omega arith
+unfolding has
+has_ext w a b ha hb e = same_from_bits_below w a b ha hb (λ r l. same (bit_at a r) (bit_at b r) (bit_at-lt a r) (bit_at-lt b r) (e r l))
   where
     same : (p q : ℕ) → p < 2 → q < 2 → eqb p 1 ≡ eqb q 1 → p ≡ q
     same p q hp hq f = elim (cases_Bool (eqb q 1)) [
@@ -77,7 +69,7 @@ has_ext (suc w) a b ha hb e =
 
 -- the bit operations, member by member
 
-or_digits : (p q : ℕ) → p < 2 → q < 2 → eqb (bit_or p q) 1 ≡ (eqb p 1 || eqb q 1)
+or_digits : (p q : ℕ) → p < 2 → q < 2 → eqb (max p q) 1 ≡ (eqb p 1 || eqb q 1)
 or_digits zero zero _ _ = refl
 or_digits zero (suc zero) _ _ = refl
 or_digits (suc zero) zero _ _ = refl
@@ -86,7 +78,7 @@ or_digits zero (suc (suc q)) _ h = absurd (omega arith)
 or_digits (suc zero) (suc (suc q)) _ h = absurd (omega arith)
 or_digits (suc (suc p)) q h _ = absurd (omega arith)
 
-and_digits : (p q : ℕ) → p < 2 → q < 2 → eqb (bit_and p q) 1 ≡ (eqb p 1 && eqb q 1)
+and_digits : (p q : ℕ) → p < 2 → q < 2 → eqb (min p q) 1 ≡ (eqb p 1 && eqb q 1)
 and_digits zero zero _ _ = refl
 and_digits zero (suc zero) _ _ = refl
 and_digits (suc zero) zero _ _ = refl
@@ -97,15 +89,11 @@ and_digits (suc (suc p)) q h _ = absurd (omega arith)
 
 pub has_or : (a b k : ℕ) → has (bit_or a b) k ≡ (has a k || has b k)
 unfolding has
-has_or a b k =
-    ap (λ (n : ℕ). eqb (n % 2) 1) (or_shr a b k) ∙ ap (λ (n : ℕ). eqb n 1) (or_mod (a / 2 ^ k) (b / 2 ^ k) 1)
-    ∙ or_digits (a / 2 ^ k % 2) (b / 2 ^ k % 2) (omega arith) (omega arith)
+has_or a b k = ap (λ (n : ℕ). eqb n 1) (bit_at_or a b k) ∙ or_digits (bit_at a k) (bit_at b k) (bit_at-lt a k) (bit_at-lt b k)
 
 pub has_and : (a b k : ℕ) → has (bit_and a b) k ≡ (has a k && has b k)
 unfolding has
-has_and a b k =
-    ap (λ (n : ℕ). eqb (n % 2) 1) (and_shr a b k) ∙ ap (λ (n : ℕ). eqb n 1) (and_mod (a / 2 ^ k) (b / 2 ^ k) 1)
-    ∙ and_digits (a / 2 ^ k % 2) (b / 2 ^ k % 2) (omega arith) (omega arith)
+has_and a b k = ap (λ (n : ℕ). eqb n 1) (bit_at_and a b k) ∙ and_digits (bit_at a k) (bit_at b k) (bit_at-lt a k) (bit_at-lt b k)
 
 -- union, intersection and difference, member by member
 
@@ -328,24 +316,47 @@ ones_count (suc w) n h =
 
 pub shifted_low : (n r : ℕ) → eqb (bit_and (n / 2 ^ r) 1) 1 ≡ has n r
 unfolding has
-shifted_low n r = ap (λ (m : ℕ). eqb m 1) (and_mask (n / 2 ^ r) 1)
+shifted_low n r = ap (λ (m : ℕ). eqb m 1) (shr_and_one n r)
 
-pub with_code : (w n r : ℕ) → r < w → bit_or n (1 * 2 ^ r % 2 ^ w) ≡ with_member w n r
-unfolding union
-with_code w n r l = ap (bit_or n) (one_shl r w l) ∙ sym (with-within w n r l)
+pub no_bit_past : (w n r : ℕ) → n < 2 ^ w → w ≤ r → ltb r w ≡ has n r
+no_bit_past w n r h l = le-ltb r w l ∙ sym (has_past w n r h l)
 
-pub without_code : (w n r : ℕ) → r < w → bit_and n (2 ^ w - 1 - 1 * 2 ^ r % 2 ^ w) ≡ without_member w n r
-unfolding difference
-without_code w n r l = ap (λ (m : ℕ). bit_and n (2 ^ w - 1 - m)) (one_shl r w l) ∙ sym (without-within w n r l)
+-- the word of one bit, or of none past the width
 
-pub union_code : (a b : ℕ) → bit_or a b ≡ union a b
-unfolding union
-union_code a b = refl
+pub bit_within : (w r : ℕ) → r < w → 1 * 2 ^ r % 2 ^ w ≡ cond (ltb r w) (2 ^ r) 0
+bit_within w r l = one_shl r w l ∙ sym (cond-true (ltb r w) (2 ^ r) 0 (lt-ltb r w l))
 
-pub intersection_code : (a b : ℕ) → bit_and a b ≡ intersection a b
-unfolding intersection
-intersection_code a b = refl
+pub bit_past : (w r : ℕ) → w ≤ r → 0 ≡ cond (ltb r w) (2 ^ r) 0
+bit_past w r l = sym (cond-false (ltb r w) (2 ^ r) 0 (le-ltb r w l))
+
+pub with_bit : (w n r : ℕ) → bit_or n (cond (ltb r w) (2 ^ r) 0) ≡ with_member w n r
+unfolding with_member
+with_bit w n r = by (ltb r w)
+  where
+    by : (b : Bool) → bit_or n (cond b (2 ^ r) 0) ≡ cond b (bit_or n (2 ^ r)) n
+    by true = refl
+    by false = or_zero_r n
+
+pub without_bit : (w n r : ℕ) → n < 2 ^ w → bit_and n (2 ^ w - 1 - cond (ltb r w) (2 ^ r) 0) ≡ without_member w n r
+unfolding without_member
+without_bit w n r h = by (ltb r w)
+  where
+    by : (b : Bool) → bit_and n (2 ^ w - 1 - cond b (2 ^ r) 0) ≡ cond b (bit_and n (2 ^ w - 1 - 2 ^ r)) n
+    by true = refl
+    by false = ap (bit_and n) (let e : 2 ^ w - 1 - 0 ≡ 2 ^ w - 1 = omega arith in e) ∙ and_mask n w ∙ mod-eq_of_lt h
 
 pub difference_code : (w a b : ℕ) → bit_and a (2 ^ w - 1 - b) ≡ difference w a b
 unfolding difference
 difference_code w a b = refl
+
+-- what the proofs of the methods use
+
+pub ruleset of_empty = has-zero
+
+pub ruleset of_with = (with_bit, has-with)
+
+pub ruleset of_without = (without_bit, has-without)
+
+pub ruleset of_difference = (difference_code, has-difference)
+
+pub ruleset of_is_empty = (has-zero, none_empty)
