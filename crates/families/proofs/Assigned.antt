@@ -4,7 +4,7 @@ use Rattle.std.proofs.lemmas.List.{reverse-append}
 use Rattle.std.proofs.lemmas.List.Sums.{fold-append}
 use Rattle.std.specs.List.{fold}
 use Rattle.sets.specs.Sets.{union}
-use Rattle.sets.specs.declared.roles.RoleSet.{RoleSet}
+use Rattle.sets.specs.Aliases.{RoleSet}
 use Rattle.policy.specs.Entries.{no_roles}
 use Rattle.families.specs.Precedence.{assigned_in}
 

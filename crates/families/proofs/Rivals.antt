@@ -4,7 +4,7 @@ use Rattle.std.proofs.Math.Bool.{or_assoc}
 use Rattle.std.proofs.lemmas.Bool.{both_ways, cases_Bool, cases_eq, cond_both, cond-true, cond-false, eq-eqb, ne_eqb, lt-ltb, and_from, and_left}
 use Rattle.std.specs.List.{fold, filter}
 use Rattle.sets.specs.Sets.{has, with_member}
-use Rattle.sets.specs.declared.users.UserSet.{UserSet}
+use Rattle.sets.specs.Aliases.{UserSet}
 use Rattle.sets.proofs.Laws.{has-zero, has-with, has-union}
 use Rattle.monitor.specs.declared.cells.Session.{Session}
 use Rattle.monitor.specs.declared.cells.Session.TheVariants.{Closed, Open}

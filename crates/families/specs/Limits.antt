@@ -5,7 +5,7 @@ use Rattle.std.proofs.lemmas.List.{get_or-set_other}
 use Rattle.std.proofs.lemmas.Bool.{both_ways, cases_Bool, cases_eq, cases_lt, eqb-true, leb-true, le-leb, not-false, not_from_true}
 use Rattle.std.specs.Option.{option_map, option_or}
 use Rattle.sets.specs.Sets.{has, count_below}
-use Rattle.sets.specs.declared.roles.RoleSet.{RoleSet}
+use Rattle.sets.specs.Aliases.{RoleSet}
 use Rattle.sets.proofs.Counts.{count_more, count_none}
 use Rattle.sets.proofs.First.{first_never, first_none}
 use Rattle.sets.proofs.Laws.{has-zero, has-without_member}

@@ -8,7 +8,7 @@ use Rattle.std.specs.Prelude.{ℕ, Bool, not, ◌&&◌, List, [], ◌∷◌, Non
 use Rattle.std.specs.Option.{option_map, option_or}
 use Rattle.sets.specs.First.{first_below}
 use Rattle.sets.specs.Sets.{has, union}
-use Rattle.sets.specs.declared.roles.RoleSet.{RoleSet}
+use Rattle.sets.specs.Aliases.{RoleSet}
 use Rattle.records.specs.declared.event.Event.{Event}
 use Rattle.records.specs.declared.event.Event.TheVariants.{Assign, Deassign, Enable, Disable, Open, Close, Activate, Deactivate}
 use Rattle.policy.specs.declared.tables.Tables.{Tables}

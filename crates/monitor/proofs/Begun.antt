@@ -2,7 +2,7 @@
 use Rattle.std.proofs.Common.{◌≡◌, ℕ, zero, suc, true, List, get_or, sym, refl, ap, ◌∙◌, arith}
 use Rattle.std.proofs.lemmas.Bool.{both_ways, cond-false}
 use Rattle.sets.specs.Sets.{has, union}
-use Rattle.sets.specs.declared.roles.RoleSet.{RoleSet}
+use Rattle.sets.specs.Aliases.{RoleSet}
 use Rattle.sets.proofs.Laws.{has-zero}
 use Rattle.policy.specs.declared.tables.Tables.{Tables}
 use Rattle.policy.specs.Entries.{no_roles}

@@ -1,6 +1,6 @@
 -- The stored authorised roles are those of the relation.
 use Rattle.std.proofs.Common.{◌≡◌, ℕ, ◌<◌, true, get_or, sym, ap, ◌∙◌, inl, inr, arith}
-use Rattle.sets.specs.declared.roles.RoleSet.{RoleSet}
+use Rattle.sets.specs.Aliases.{RoleSet}
 use Rattle.sets.specs.Sets.{has}
 use Rattle.policy.specs.declared.tables.Tables.{Tables}
 use Rattle.policy.specs.Entries.{no_roles, inherits}

@@ -4,7 +4,7 @@ use Rattle.std.proofs.lemmas.List.{length-set, get_or-set_same, get_or-set_other
 use Rattle.std.proofs.lemmas.Bool.{both_ways, cases_Bool, cases_eq, eqb-true, eq-eqb, ne_eqb, ltb-true, lt-ltb, and_parts, and_from, or_cases, or_left, or_right, not-true, not_from_false}
 use Rattle.std.specs.Option.{option_map}
 use Rattle.sets.specs.Sets.{has}
-use Rattle.sets.specs.declared.roles.RoleSet.{RoleSet}
+use Rattle.sets.specs.Aliases.{RoleSet}
 use Rattle.sets.proofs.First.{first_none}
 use Rattle.sets.proofs.Laws.{has-zero, has-with, has_without_low, has-without_member}
 use Rattle.records.specs.declared.event.Event.{Event}

@@ -1,6 +1,6 @@
 -- The number, the subject, the place and the roles of each answer. Assumes nothing.
 use Rattle.std.specs.Prelude.{ℕ}
-use Rattle.sets.specs.declared.roles.RoleSet.{RoleSet}
+use Rattle.sets.specs.Aliases.{RoleSet}
 use Rattle.policy.specs.Entries.{no_roles}
 use Rattle.monitor.specs.declared.answer.Answer.{Answer}
 use Rattle.monitor.specs.declared.answer.Answer.TheVariants.{Granted, Hindered, Refused}

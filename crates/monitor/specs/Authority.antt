@@ -1,7 +1,7 @@
 -- Who is authorised for what, and how a state is tied to its policy. Assumes nothing.
 use Rattle.std.specs.Prelude.{◌≡◌, ℕ, ◌<◌, true, get_or, slice_index_or}
 use Rattle.sets.specs.Sets.{has}
-use Rattle.sets.specs.declared.roles.RoleSet.{RoleSet}
+use Rattle.sets.specs.Aliases.{RoleSet}
 use Rattle.policy.specs.declared.tables.Tables.{Tables}
 use Rattle.policy.specs.Entries.{no_roles, inherits}
 use Rattle.policy.specs.Seniority.{Senior, gathered, closure}

@@ -1,6 +1,6 @@
 -- What a granted event does: the state that it makes, and the roles that it ends and lists. Assumes nothing.
 use Rattle.std.specs.Prelude.{ℕ, slice_index_or, slice_set}
-use Rattle.sets.specs.declared.roles.RoleSet.{RoleSet}
+use Rattle.sets.specs.Aliases.{RoleSet}
 use Rattle.sets.specs.Sets.{with_member, without_member}
 use Rattle.records.specs.declared.event.Event.{Event}
 use Rattle.records.specs.declared.event.Event.TheVariants.{Assign, Deassign, Enable, Disable, Open, Close, Activate, Deactivate}

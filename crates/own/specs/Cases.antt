@@ -2,7 +2,7 @@
 use Rattle.std.specs.Prelude.{◌≡◌, ℕ, List, [], ◌∷◌, ◌++◌, replicate, Ok, Err}
 use Rattle.records.specs.declared.event.Event.{Event}
 use Rattle.records.specs.declared.event.Event.TheVariants.{Activate}
-use Rattle.sets.specs.declared.roles.RoleSet.{RoleSet}
+use Rattle.sets.specs.Aliases.{RoleSet}
 use Rattle.policy.specs.declared.tables.Tables.{Tables}
 use Rattle.policy.specs.Entries.{no_roles}
 use Rattle.policy.specs.Updates.{only}

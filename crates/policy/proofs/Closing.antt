@@ -3,7 +3,7 @@ use Rattle.std.proofs.Common.{◌≡◌, ℕ, zero, suc, ◌<◌, ◌≤◌, Boo
 use Rattle.std.proofs.lemmas.List.FromFn.{length-map-range_with_len, get_or-map-range_with_len}
 use Rattle.std.proofs.lemmas.List.{length-map, get_or-map, get_or_past}
 use Rattle.std.proofs.lemmas.Bool.{cases_Bool, cases_lt, cases_eq, eqb-true, eq-eqb, ltb-true, lt-ltb, and_parts, and_from, or_cases, or_left, or_right, both_ways, cond-true, cond-false}
-use Rattle.sets.specs.declared.roles.RoleSet.{RoleSet}
+use Rattle.sets.specs.Aliases.{RoleSet}
 use Rattle.sets.specs.Sets.{has, union}
 use Rattle.sets.proofs.Laws.{has-zero, has-with, has-union}
 use Rattle.policy.specs.Entries.{no_roles, holds}

@@ -6,8 +6,7 @@ use Rattle.records.specs.Kinds.{between}
 use Rattle.records.specs.declared.entry.Entry.{Entry}
 use Rattle.records.specs.declared.entry.Entry.TheVariants.{Sizes, Inherits, StaticPair, DynamicPair, ConflictingUsers, LimitOfRoleUsers, LimitOfUserRoles, LimitOfUserActive, LimitOfRoleSessions, Required, Dependency, End}
 use Rattle.records.specs.declared.fault.Fault.TheVariants.{MisplacedSizes, OutOfRange, EqualPair, RepeatedLimit}
-use Rattle.sets.specs.declared.roles.RoleSet.{RoleSet}
-use Rattle.sets.specs.declared.users.UserSet.{UserSet}
+use Rattle.sets.specs.Aliases.{RoleSet, UserSet}
 use Rattle.policy.specs.declared.tables.Sizes.{Sizes as Counts}
 use Rattle.policy.specs.declared.tables.Limits.{Limits}
 use Rattle.policy.specs.declared.tables.Requirements.{Requirements}

@@ -7,7 +7,7 @@ use Rattle.std.specs.Array.{MapsFrom, IsMapOf}
 use Rattle.std.specs.Fn.{Called}
 use Rattle.std.specs.List.{filter, fold, range_with_len}
 use denote.Param.Members.{Mut}
-use Rattle.sets.specs.declared.roles.RoleSet.{RoleSet}
+use Rattle.sets.specs.Aliases.{RoleSet}
 use Rattle.sets.specs.Sets.{has, union}
 use Rattle.policy.specs.Entries.{no_roles}
 use Rattle.policy.specs.Seniority.{gathered, spread_rows, closed_below}

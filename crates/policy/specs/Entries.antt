@@ -4,8 +4,7 @@
 --   ssd_pair     two roles are in static conflict;  dsd_pair: in dynamic conflict
 --   users_pair   two users conflict for a role
 use Rattle.std.specs.Prelude.{ℕ, Bool, List, [], get_or, slice_index_or}
-use Rattle.sets.specs.declared.roles.RoleSet.{RoleSet}
-use Rattle.sets.specs.declared.users.UserSet.{UserSet}
+use Rattle.sets.specs.Aliases.{RoleSet, UserSet}
 use Rattle.sets.specs.Sets.{has}
 use Rattle.policy.specs.declared.tables.Tables.{Tables}
 

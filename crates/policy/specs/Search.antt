@@ -1,7 +1,7 @@
 -- The verdict as it is searched for, by the table of seniority. Assumes nothing.
 -- That it is the right verdict is said by `Vetted`.
 use Rattle.std.specs.Prelude.{ℕ, Bool, cond, not, ◌&&◌, ◌||◌, List, Some, None, Option, Ok, Err, nat_lt}
-use Rattle.sets.specs.declared.roles.RoleSet.{RoleSet}
+use Rattle.sets.specs.Aliases.{RoleSet}
 use Rattle.sets.specs.First.{first_of}
 use Rattle.policy.specs.declared.tables.Tables.{Tables}
 use Rattle.policy.specs.declared.verdict.Failure.{Failure}

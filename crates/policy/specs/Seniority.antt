@@ -1,7 +1,7 @@
 -- The role hierarchy: the relation of seniority, and the table of it that the code computes. Assumes nothing.
 use Rattle.std.specs.Prelude.{◌≡◌, ℕ, zero, suc, ◌<◌, Bool, true, cond, List, map, get_or, slice_index_or}
 use Rattle.std.specs.List.{range_with_len}
-use Rattle.sets.specs.declared.roles.RoleSet.{RoleSet}
+use Rattle.sets.specs.Aliases.{RoleSet}
 use Rattle.sets.specs.Sets.{has, union, with_member}
 use Rattle.policy.specs.Entries.{no_roles, holds}
 

@@ -1,7 +1,6 @@
 -- The tables with nothing in them, and with one entry more. Assumes nothing.
 use Rattle.std.specs.Prelude.{ℕ, List, [], get_or, replicate, None, slice_index_or, slice_set}
-use Rattle.sets.specs.declared.roles.RoleSet.{RoleSet}
-use Rattle.sets.specs.declared.users.UserSet.{UserSet}
+use Rattle.sets.specs.Aliases.{RoleSet, UserSet}
 use Rattle.sets.specs.Sets.{with_member}
 use Rattle.policy.specs.declared.tables.Sizes.{Sizes}
 use Rattle.policy.specs.declared.tables.Limits.{Limits}

@@ -6,8 +6,7 @@
 --   Mutual        pairs are stored both ways
 --   Users...      the same of the conflicting users, and nobody conflicts with himself
 use Rattle.std.specs.Prelude.{◌≡◌, ℕ, ◌<◌, ◌≤◌, true, false, List, [], length, slice_index_or}
-use Rattle.sets.specs.declared.roles.RoleSet.{RoleSet}
-use Rattle.sets.specs.declared.users.UserSet.{UserSet}
+use Rattle.sets.specs.Aliases.{RoleSet, UserSet}
 use Rattle.policy.specs.declared.tables.Sizes.{Sizes}
 use Rattle.policy.specs.declared.tables.Tables.{Tables}
 use Rattle.policy.specs.Entries.{holds, holds_user}

@@ -1,6 +1,6 @@
 use Rattle.std.proofs.Common.{◌≡◌, ◌∙◌, Err, Ok, sym, ap, rules}
 use Rattle.sets.specs.Sets.{has}
-use Rattle.sets.specs.declared.roles.RoleSet.{RoleSet}
+use Rattle.sets.specs.Aliases.{RoleSet}
 use Rattle.monitor.specs.declared.cells.Whose.TheVariants.{Anyone, User}
 use Rattle.families.specs.declared.precedence.Condition.TheVariants.{ActiveForAny, ActiveInSession, ActiveForOwner}
 use Rattle.families.specs.Family.{clear_of}

@@ -1,6 +1,6 @@
 use Rattle.std.proofs.Common.{◌≡◌, ◌∙◌, Ok, sym, ap}
 use Rattle.sets.specs.Sets.{has}
-use Rattle.sets.specs.declared.roles.RoleSet.{RoleSet}
+use Rattle.sets.specs.Aliases.{RoleSet}
 use Rattle.monitor.specs.Cells.{is_assigned}
 use Rattle.families.specs.declared.precedence.Condition.TheVariants.{AssignedToUser, AssignedToAny}
 use Rattle.families.specs.Family.{clear_of}

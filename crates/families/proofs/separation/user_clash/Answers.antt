@@ -1,6 +1,6 @@
 use Rattle.std.proofs.Common.{◌≡◌, ℕ, Bool, ◌&&◌, ap, ◌∙◌, rules}
 use Rattle.sets.specs.Sets.{has}
-use Rattle.sets.specs.declared.users.UserSet.{UserSet}
+use Rattle.sets.specs.Aliases.{UserSet}
 use Rattle.sets.proofs.First.{first-same}
 use Rattle.policy.specs.Entries.{users_pair}
 use Rattle.families.specs.Separation.{active_for, user_clash}

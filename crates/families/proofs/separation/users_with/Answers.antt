@@ -4,7 +4,7 @@ use Rattle.std.proofs.lemmas.Iterator.{YieldsList-from_slice}
 use Rattle.std.proofs.lemmas.Iterator.Consumers.{YieldsList-from_filter}
 use borrow.Author.Tests.{tests}
 use Rattle.sets.specs.Sets.{has}
-use Rattle.sets.specs.declared.users.UserSet.{UserSet}
+use Rattle.sets.specs.Aliases.{UserSet}
 use Rattle.sets.proofs.Laws.{has-zero}
 use Rattle.monitor.specs.declared.cells.Whose.TheVariants.{User}
 use Rattle.monitor.specs.Cells.{active_in}

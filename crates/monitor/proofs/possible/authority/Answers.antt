@@ -1,5 +1,5 @@
 use Rattle.std.proofs.Common.{◌≡◌, ℕ, sym, ap, ◌∙◌, subst}
-use Rattle.sets.specs.declared.roles.RoleSet.{RoleSet}
+use Rattle.sets.specs.Aliases.{RoleSet}
 use Rattle.policy.specs.Seniority.{closure}
 use Rattle.policy.proofs.Closing.{gathered-same}
 use Rattle.policy.proofs.Drafts.{well_formed}

@@ -1,6 +1,6 @@
 use Rattle.std.proofs.Common.{◌≡◌, sym, ap, ◌∙◌}
 use Rattle.sets.specs.Sets.{has}
-use Rattle.sets.specs.declared.roles.RoleSet.{RoleSet}
+use Rattle.sets.specs.Aliases.{RoleSet}
 use Rattle.monitor.specs.Cells.{is_authorised}
 use Rattle.monitor.proofs.Entitled.{stored_relation, relation_stored}
 use Rattle.monitor.proofs.Ledgers.{ledger_formed, ledger_fits}

@@ -1,6 +1,6 @@
 use Rattle.std.proofs.Common.{◌≡◌, List, set, sym, ap, ◌∙◌, arith}
 use Rattle.std.proofs.lemmas.List.{set_past}
-use Rattle.sets.specs.declared.roles.RoleSet.{RoleSet}
+use Rattle.sets.specs.Aliases.{RoleSet}
 use Rattle.monitor.specs.declared.cells.Session.{Session}
 use Rattle.monitor.specs.declared.cells.Whose.TheVariants.{Anyone}
 use Rattle.monitor.specs.Cells.{active_in}

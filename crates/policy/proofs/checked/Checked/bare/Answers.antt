@@ -1,5 +1,5 @@
 use Rattle.std.proofs.Common.{List, get_or, sym, ap, subst}
-use Rattle.sets.specs.declared.roles.RoleSet.{RoleSet}
+use Rattle.sets.specs.Aliases.{RoleSet}
 use Rattle.policy.specs.Entries.{no_roles}
 use Rattle.policy.specs.Questions.{Passes}
 use Rattle.policy.proofs.Bare.{bare-passes}

@@ -1,5 +1,5 @@
 use Rattle.std.proofs.Common.{List, get_or, sym, ap, ◌∙◌}
-use Rattle.sets.specs.declared.roles.RoleSet.{RoleSet}
+use Rattle.sets.specs.Aliases.{RoleSet}
 use Rattle.policy.specs.Entries.{no_roles}
 use Rattle.policy.proofs.Drafts.{passes}
 use Rattle.policy.proofs.checked.Checked.check.Goals as goal

@@ -1,5 +1,5 @@
 use Rattle.std.proofs.Common.{◌≡◌, ℕ, sym, ap, ◌∙◌, subst, arith}
-use Rattle.sets.specs.declared.roles.RoleSet.{RoleSet}
+use Rattle.sets.specs.Aliases.{RoleSet}
 use Rattle.policy.specs.Seniority.{gathered, closed_below, closure, TellsSeniority}
 use Rattle.policy.proofs.Closing.{closure_tells}
 use Rattle.policy.proofs.Loops.{close_more}
