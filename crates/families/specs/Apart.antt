@@ -1,10 +1,10 @@
 -- Separation keeps its laws, and is exact. This is where the policy's questions on seniors and on self-conflicts are used.
 -- It proves, for the law of the family, and assumes nothing.
-use Rattle.std.specs.Prelude.{◌≡◌, ℕ, ◌<◌, ◌≤◌, Bool, true, false, ◌&&◌, ◌⊎◌, get_or, Some, None, Option, ◌≢◌, slice_index_or, slice_set, refl}
+use Rattle.std.specs.Prelude.{◌≡◌, ℕ, ◌<◌, true, false, ◌&&◌, ◌⊎◌, get_or, None, ◌≢◌, slice_index_or, slice_set, refl}
 use Rattle.std.proofs.Common.{sym, ap, subst, ◌∙◌, inl, inr, arith}
-use Rattle.std.specs.Option.{option_map, option_or}
+use Rattle.std.specs.Option.{option_map}
 use Rattle.std.proofs.lemmas.List.{get_or-set_same, get_or-set_other}
-use Rattle.std.proofs.lemmas.Bool.{cases_Bool, cases_eq, both_ways, eqb-true, eq-eqb}
+use Rattle.std.proofs.lemmas.Bool.{cases_Bool, cases_eq, both_ways, false_from_ne_true, eqb-true, eq-eqb}
 use Rattle.sets.specs.Sets.{has}
 use Rattle.sets.specs.Aliases.{RoleSet}
 use Rattle.sets.proofs.First.{first_none, first_never}
@@ -18,40 +18,22 @@ use Rattle.policy.specs.Seniority.{Senior, itself}
 use Rattle.monitor.specs.declared.cells.Cells.{Cells}
 use Rattle.monitor.specs.declared.cells.Session.{Session}
 use Rattle.monitor.specs.declared.cells.Session.TheVariants as session
-use Rattle.monitor.specs.declared.cells.Whose.{Whose}
-use Rattle.monitor.specs.declared.cells.Whose.TheVariants.{Anyone, User}
+use Rattle.monitor.specs.declared.cells.Whose.TheVariants.{User}
 use Rattle.monitor.specs.Authority.{Authorised, Fits}
-use Rattle.monitor.specs.Cells.{active, owner, counts, active_in, session_at, is_assigned, is_authorised, blank}
+use Rattle.monitor.specs.Cells.{active, owner, counts, session_at, is_assigned, is_authorised, blank}
 use Rattle.monitor.specs.Effect.{next, put_assigned, put_session, with_role, without_role, activated, deactivated}
 use Rattle.monitor.specs.Meaning.{Lawful, Law}
 use Rattle.monitor.specs.Possible.{Possible, may_activate}
-use Rattle.monitor.proofs.Begun.{all_closed, none_assigned}
+use Rattle.monitor.proofs.Begun.{none_assigned}
 use Rattle.monitor.proofs.Entitled.{stored_relation, relation_stored, authorised-below}
 use Rattle.monitor.proofs.Sessions.{active_found, active-counted, active-set, active_stays, active_put}
 use Rattle.monitor.proofs.Steps.{yes_to, both_below, has_own, has_still, has_either}
-use Rattle.families.specs.Family.{Exact, told}
-use Rattle.families.specs.Separation.{active_for, StaticallyApart, Separated, static_clash, dynamic_clash, user_clash, clash_by, clash_number, separation}
+use Rattle.families.specs.Family.{Exact, active_for}
+use Rattle.families.specs.Separation.{StaticallyApart, Separated, static_clash, dynamic_clash, user_clash, clash_by, clash_number, separation}
 use Rattle.families.specs.declared.separation.Clash.{Clash}
 use Rattle.families.specs.declared.separation.Clash.TheVariants.{StaticRole, DynamicRole, ConflictingUser}
-use Rattle.families.specs.Breaches.{admitted_none, none_admitted, mapped_none, none_has}
-
--- a fact that cannot be true is false
-so_false : (b : Bool) → (b ≢ true) → b ≡ false
-so_false true f = absurd (f refl)
-so_false false f = refl
-
--- of two tests of which not both pass
-other_fails : (a b : Bool) → (a && b) ≡ false → a ≡ true → b ≡ false
-other_fails true b e h = e
-other_fails false b e h = absurd (both_ways false refl h)
-
-not_both : (a b : Bool) → (a ≡ true → b ≢ true) → (a && b) ≡ false
-not_both true b f = so_false b (f refl)
-not_both false b f = refl
-
-no_first : {X : Type 0} (o p : Option X) → option_or o p ≡ None → (o ≡ None) × (p ≡ None)
-no_first None p e = (refl, e)
-no_first (Some x) p e = absurd (let z : ◌≡◌ {A = ℕ} 0 1 = cc in omega arith)
+use Rattle.families.specs.Breaches.{Named, told_named, admitted_none, none_admitted, mapped_none, none_first, first_none_of, not_both, other_fails}
+use Rattle.families.specs.Sessions.{Within, none_has, none_begun, kept_active, laid_down, kept_up, took_up}
 
 -- what a checked policy says of conflicts
 module _ (t : Tables) (law : Lawful t) where
@@ -115,7 +97,7 @@ in_range t law c u r can =
 assign_keeps : (t : Tables) (law : Lawful t) (c : Cells) (fits : Fits t c) (u r : ℕ) → Possible t c (Assign u r) → Separated t c
     → static_clash t c u r ≡ None → StaticallyApart t (next t c (Assign u r))
 assign_keeps t law c fits u r can sep none v a b ha hb =
-    so_false (ssd_pair t a b) (λ h. go h (split v a ha) (split v b hb))
+    false_from_ne_true (ssd_pair t a b) (λ h. go h (split v a ha) (split v b hb))
   where
     split : (v a : ℕ) → Authorised t (next t c (Assign u r)) v a → Authorised t c v a ⊎ ((v ≡ u) × Senior (inherits t) r a)
     split = split_assigned t law c fits u r (in_range t law c u r can).0
@@ -138,58 +120,25 @@ assign_keeps t law c fits u r can sep none v a b ha hb =
 
 -- sessions
 
--- what is active for a user in a session that takes roles from, or keeps, that in its place
-kept_active : (c : Cells) (s : ℕ) (x : Session) → ((w : Whose) (k : ℕ) → counts w x ≡ true → has (active x) k ≡ true → (counts w (session_at c s) ≡ true) × (has (active (session_at c s)) k ≡ true))
-    → (w : Whose) (k : ℕ) → has (active_in w (slice_set c.sessions s x)) k ≡ true → has (active_in w c.sessions) k ≡ true
-kept_active c s x less w k h = elim (active-set w c.sessions s k x h) [
-  | inl q ↦ q
-  | inr q ↦ let o = less w k q.0 q.1 in active-counted w c.sessions s k o.0 o.1
-]
-
 -- fewer active roles keep users and roles apart
 less_active : (t : Tables) (c : Cells) (s : ℕ) (x : Session) → Separated t c
-    → ((w : Whose) (k : ℕ) → counts w x ≡ true → has (active x) k ≡ true → (counts w (session_at c s) ≡ true) × (has (active (session_at c s)) k ≡ true))
-    → Separated t (put_session c s x)
+    → Within x (session_at c s) → Separated t (put_session c s x)
 less_active t c s x sep less = record {
   statically = sep.statically;
   dynamically = λ u a b ha hb. sep.dynamically u a b (kept_active c s x less (User u) a ha) (kept_active c s x less (User u) b hb);
   by_users = λ r u v hu hv. sep.by_users r u v (kept_active c s x less (User u) r hu) (kept_active c s x less (User v) r hv);
 }
 
-laid_down : (x : Session) (r : ℕ) (w : Whose) (k : ℕ) → counts w (deactivated r x) ≡ true → has (active (deactivated r x)) k ≡ true
-    → (counts w x ≡ true) × (has (active x) k ≡ true)
-laid_down session.Closed r w k a h = none_has k h
-laid_down (session.Open o y) r w k a h = (same-owner w a, has-without_member 32 y.bits r k h)
-  where
-    same-owner : (w : Whose) → counts w (session.Open o (without_role y r)) ≡ true → counts w (session.Open o y) ≡ true
-    same-owner Anyone e = e
-    same-owner (User u) e = e
-
--- an activated role joins those of the session, with the same owner
-took_up : (c : Cells) (x : Session) (r u k : ℕ) → may_activate c r x ≡ None → counts (User u) (activated r x) ≡ true → has (active (activated r x)) k ≡ true
-    → (u ≡ owner x) × (((counts (User u) x ≡ true) × (has (active x) k ≡ true)) ⊎ (k ≡ r))
-took_up c session.Closed r u k can a h = none_has k h
-took_up c (session.Open o y) r u k can a h = (sym (eqb-true o u a), elim (has_either y r k h) [ inl q ↦ inl (a, q) | inr q ↦ inr q ])
-
 owner-counts : (c : Cells) (x : Session) (r : ℕ) → may_activate c r x ≡ None → counts (User (owner x)) (activated r x) ≡ true
-owner-counts c session.Closed r can = absurd (let z : ◌≡◌ {A = ℕ} 0 1 = cc in omega arith)
+owner-counts c session.Closed r can = cc
 owner-counts c (session.Open o y) r can = eq-eqb o o refl
 
-kept_up : (c : Cells) (x : Session) (r : ℕ) (w : Whose) (k : ℕ) → counts w x ≡ true → has (active x) k ≡ true
-    → (counts w (activated r x) ≡ true) × (has (active (activated r x)) k ≡ true)
-kept_up c session.Closed r w k a h = none_has k h
-kept_up c (session.Open o y) r w k a h = (same-owner w a, has_still y r k h)
-  where
-    same-owner : (w : Whose) → counts w (session.Open o y) ≡ true → counts w (session.Open o (with_role y r)) ≡ true
-    same-owner Anyone e = e
-    same-owner (User u) e = e
-
 is_there : (c : Cells) (x : Session) (r : ℕ) → may_activate c r x ≡ None → r < 32 → has (active (activated r x)) r ≡ true
-is_there c session.Closed r can l = absurd (let z : ◌≡◌ {A = ℕ} 0 1 = cc in omega arith)
+is_there c session.Closed r can l = cc
 is_there c (session.Open o y) r can l = has_own y r l
 
 -- the owner of a session with an active role is a user
-user_below : (t : Tables) (c : Cells) → Fits t c → (v k : ℕ) → active_for c v k ≡ true → v < 64
+user_below : (t : Tables) (c : Cells) → Fits t c → (v k : ℕ) → active_for c (User v) k ≡ true → v < 64
 user_below t c fits v k h =
     let f = active_found (User v) c.sessions k h in at (session_at c f.0) f.2 (fits.sound.owned f.0)
   where
@@ -207,11 +156,11 @@ module _ (t : Tables) (law : Lawful t) (c : Cells) (fits : Fits t c) (s r : ℕ)
       (omega (arith, l.0, law.formed.sessions_sized.1), omega (arith, l.1, law.formed.roles_sized.1))
 
   -- what is active then for a user was before, or is the role for the owner
-  split_active : (u k : ℕ) → active_for (next t c (Activate s r)) u k ≡ true → (active_for c u k ≡ true) ⊎ ((u ≡ owner (session_at c s)) × (k ≡ r))
+  split_active : (u k : ℕ) → active_for (next t c (Activate s r)) (User u) k ≡ true → (active_for c (User u) k ≡ true) ⊎ ((u ≡ owner (session_at c s)) × (k ≡ r))
   split_active u k h = elim (active-set (User u) c.sessions s k (activated r (session_at c s)) h) [
     | inl q ↦ inl q
     | inr q ↦
-        let p = took_up c (session_at c s) r u k open_there q.0 q.1 in
+        let p = took_up (session_at c s) r u k q.0 q.1 in
         elim p.1 [
           | inl o ↦ inl (active-counted (User u) c.sessions s k o.0 o.1)
           | inr o ↦ inr (p.0, o)
@@ -221,33 +170,33 @@ module _ (t : Tables) (law : Lawful t) (c : Cells) (fits : Fits t c) (s r : ℕ)
   activate_keeps : Separated t c → dynamic_clash t c (owner (session_at c s)) r ≡ None → user_clash t c (owner (session_at c s)) r ≡ None → Separated t (next t c (Activate s r))
   activate_keeps sep none-d none-u = record {
     statically = sep.statically;
-    dynamically = λ u a b ha hb. so_false (dsd_pair t a b) (λ h. dyn u a b h (split_active u a ha) (split_active u b hb));
-    by_users = λ k u v hu hv. so_false (users_pair t k u v) (λ h. both k u v h (split_active u k hu) (split_active v k hv));
+    dynamically = λ u a b ha hb. false_from_ne_true (dsd_pair t a b) (λ h. dyn u a b h (split_active u a ha) (split_active u b hb));
+    by_users = λ k u v hu hv. false_from_ne_true (users_pair t k u v) (λ h. both k u v h (split_active u k hu) (split_active v k hv));
   }
     where
       o : ℕ
       o = owner (session_at c s)
 
-      clear : (u a : ℕ) → u ≡ o → active_for c u a ≡ true → dsd_pair t r a ≢ true
+      clear : (u a : ℕ) → u ≡ o → active_for c (User u) a ≡ true → dsd_pair t r a ≢ true
       clear u a e h d =
           let l : a < 32 = omega (arith, (law.formed.dsd_within r a d).1, law.formed.roles_sized.1) in
-          both_ways (dsd_pair t r a) (other_fails (active_for c o a) (dsd_pair t r a) (first_none 32 (λ k. active_for c o k && dsd_pair t r k) none-d a l) (ap (λ k. active_for c k a) (sym e) ∙ h)) d
+          both_ways (dsd_pair t r a) (other_fails (active_for c (User o) a) (dsd_pair t r a) (first_none 32 (λ k. active_for c (User o) k && dsd_pair t r k) none-d a l) (ap (λ k. active_for c (User k) a) (sym e) ∙ h)) d
 
-      free : (v : ℕ) → active_for c v r ≡ true → users_pair t r o v ≢ true
+      free : (v : ℕ) → active_for c (User v) r ≡ true → users_pair t r o v ≢ true
       free v h d =
-          both_ways (active_for c v r) (other_fails (users_pair t r o v) (active_for c v r) (first_none 64 (λ k. users_pair t r o k && active_for c k r) none-u v (user_below t c fits v r h)) d) h
+          both_ways (active_for c (User v) r) (other_fails (users_pair t r o v) (active_for c (User v) r) (first_none 64 (λ k. users_pair t r o k && active_for c (User k) r) none-u v (user_below t c fits v r h)) d) h
 
-      dyn : (u a b : ℕ) → dsd_pair t a b ≡ true → (active_for c u a ≡ true) ⊎ ((u ≡ o) × (a ≡ r)) → (active_for c u b ≡ true) ⊎ ((u ≡ o) × (b ≡ r)) → ⊥
+      dyn : (u a b : ℕ) → dsd_pair t a b ≡ true → (active_for c (User u) a ≡ true) ⊎ ((u ≡ o) × (a ≡ r)) → (active_for c (User u) b ≡ true) ⊎ ((u ≡ o) × (b ≡ r)) → ⊥
       dyn u a b h (inl x) (inl y) = both_ways (dsd_pair t a b) (sep.dynamically u a b x y) h
       dyn u a b h (inl x) (inr y) = clear u a y.0 x (law.formed.dsd_mutual r a ∙ ap (dsd_pair t a) (sym y.1) ∙ h)
       dyn u a b h (inr x) (inl y) = clear u b x.0 y (ap (λ k. dsd_pair t k b) (sym x.1) ∙ h)
       dyn u a b h (inr x) (inr y) = law.passes (SelfConflict r) (inr (ap (λ k. dsd_pair t k r) (sym x.1) ∙ ap (dsd_pair t a) (sym y.1) ∙ h))
 
-      both : (k u v : ℕ) → users_pair t k u v ≡ true → (active_for c u k ≡ true) ⊎ ((u ≡ o) × (k ≡ r)) → (active_for c v k ≡ true) ⊎ ((v ≡ o) × (k ≡ r)) → ⊥
+      both : (k u v : ℕ) → users_pair t k u v ≡ true → (active_for c (User u) k ≡ true) ⊎ ((u ≡ o) × (k ≡ r)) → (active_for c (User v) k ≡ true) ⊎ ((v ≡ o) × (k ≡ r)) → ⊥
       both k u v h (inl x) (inl y) = both_ways (users_pair t k u v) (sep.by_users k u v x y) h
-      both k u v h (inr x) (inl y) = free v (ap (active_for c v) (sym x.1) ∙ y) (ap (λ j. users_pair t j o v) (sym x.1) ∙ ap (λ j. users_pair t k j v) (sym x.0) ∙ h)
+      both k u v h (inr x) (inl y) = free v (ap (active_for c (User v)) (sym x.1) ∙ y) (ap (λ j. users_pair t j o v) (sym x.1) ∙ ap (λ j. users_pair t k j v) (sym x.0) ∙ h)
       both k u v h (inl x) (inr y) =
-          free u (ap (active_for c u) (sym y.1) ∙ x)
+          free u (ap (active_for c (User u)) (sym y.1) ∙ x)
           (law.formed.users_mutual r o u ∙ ap (λ j. users_pair t j u o) (sym y.1) ∙ ap (users_pair t k u) (sym y.0) ∙ h)
       both k u v h (inr x) (inr y) =
           both_ways (users_pair t k u v) (ap (λ j. users_pair t k j v) x.0 ∙ ap (users_pair t k o) y.0 ∙ law.formed.users_apart k o) h
@@ -255,17 +204,17 @@ module _ (t : Tables) (law : Lawful t) (c : Cells) (fits : Fits t c) (s r : ℕ)
   -- where the state after is allowed, no question fails
   activate_leads : Separated t (next t c (Activate s r)) → (dynamic_clash t c (owner (session_at c s)) r ≡ None) × (user_clash t c (owner (session_at c s)) r ≡ None)
   activate_leads sep = (
-    first_never 32 _ (λ a l. not_both (active_for c o a) (dsd_pair t r a) (λ h d. both_ways (dsd_pair t r a) (sep.dynamically o r a taken (stays o a h)) d)),
-    first_never 64 _ (λ v l. not_both (users_pair t r o v) (active_for c v r) (λ d h. both_ways (users_pair t r o v) (sep.by_users r o v taken (stays v r h)) d)),
+    first_never 32 _ (λ a l. not_both (active_for c (User o) a) (dsd_pair t r a) (λ h d. both_ways (dsd_pair t r a) (sep.dynamically o r a taken (stays o a h)) d)),
+    first_never 64 _ (λ v l. not_both (users_pair t r o v) (active_for c (User v) r) (λ d h. both_ways (users_pair t r o v) (sep.by_users r o v taken (stays v r h)) d)),
   )
     where
       o : ℕ
       o = owner (session_at c s)
 
-      stays : (u k : ℕ) → active_for c u k ≡ true → active_for (next t c (Activate s r)) u k ≡ true
-      stays u k h = active_stays (User u) c.sessions s k (activated r (session_at c s)) (λ a b. kept_up c (session_at c s) r (User u) k a b) h
+      stays : (u k : ℕ) → active_for c (User u) k ≡ true → active_for (next t c (Activate s r)) (User u) k ≡ true
+      stays u k h = active_stays (User u) c.sessions s k (activated r (session_at c s)) (λ a b. kept_up (session_at c s) r (User u) k a b) h
 
-      taken : active_for (next t c (Activate s r)) o r ≡ true
+      taken : active_for (next t c (Activate s r)) (User o) r ≡ true
       taken =
           active_put (User o) c.sessions s r (activated r (session_at c s)) (omega (arith, below.0, fits.sound.wide.2))
           (owner-counts c (session_at c s) r open_there) (is_there c (session_at c s) r open_there below.1)
@@ -310,7 +259,7 @@ keeps t c (Disable r) law fits can sep adm = record { statically = sep.staticall
 keeps t c (Open s u) law fits can sep adm = less_active t c s (session.Open u no_roles) sep (λ w k a h. none_has k h)
 keeps t c (Close s) law fits can sep adm = less_active t c s session.Closed sep (λ w k a h. none_has k h)
 keeps t c (Activate s r) law fits can sep adm =
-    let n = no_first _ _ (admitted_none _ adm) in
+    let n = none_first _ _ (admitted_none _ adm) in
     activate_keeps t law c fits s r can sep (mapped_none DynamicRole _ n.0) (mapped_none ConflictingUser _ n.1)
 keeps t c (Deactivate s r) law fits can sep adm = less_active t c s (deactivated r (session_at c s)) sep (laid_down (session_at c s) r)
 
@@ -323,28 +272,23 @@ leads t c (Open s u) law fits can sep = refl
 leads t c (Close s) law fits can sep = refl
 leads t c (Activate s r) law fits can sep =
     let n = activate_leads t law c fits s r can sep in
-    none_admitted _ (ap (λ (p : Option ℕ). option_or (option_map DynamicRole p) (option_map ConflictingUser (user_clash t c (owner (session_at c s)) r))) n.0
-    ∙ ap (option_map ConflictingUser) n.1)
+    none_admitted _ (first_none_of _ _ (ap (option_map DynamicRole) n.0) (ap (option_map ConflictingUser) n.1))
 leads t c (Deactivate s r) law fits can sep = refl
 
 new : (t : Tables) → Separated t blank
 new t = record {
   statically = λ u a b ha hb. none_has ha.0 (ap (λ (s : RoleSet). has s.bits ha.0) (sym (none_assigned u)) ∙ ha.1);
-  dynamically = λ u a b ha hb. nobody u a ha;
-  by_users = λ r u v hu hv. nobody u r hu;
+  dynamically = λ u a b ha hb. none_begun (User u) a ha;
+  by_users = λ r u v hu hv. none_begun (User u) r hu;
 }
-  where
-    nobody : {X : Type 0} (u k : ℕ) → active_for blank u k ≡ true → X
-    nobody u k h = let f = active_found (User u) blank.sessions k h in none_has k (ap (λ x. has (active x) k) (sym (all_closed f.0)) ∙ f.3)
 
-named : (o : Option Clash) → (1 ≤ told clash_number 45 o) × (told clash_number 45 o ≤ 255)
-named None = (omega arith, omega arith)
-named (Some (StaticRole a)) = (omega arith, omega arith)
-named (Some (DynamicRole a)) = (omega arith, omega arith)
-named (Some (ConflictingUser v)) = (omega arith, omega arith)
+named : (x : Clash) → Named (clash_number x)
+named (StaticRole a) = (omega arith, omega arith)
+named (DynamicRole a) = (omega arith, omega arith)
+named (ConflictingUser v) = (omega arith, omega arith)
 
 pub separation_law : Law separation
-separation_law = record { fresh = λ t law. new t; keeps = keeps; named = λ t c e. named (clash_by t c e) }
+separation_law = record { fresh = λ t law. new t; keeps = keeps; named = λ t c e. told_named clash_number 45 (omega arith, omega arith) named (clash_by t c e) }
 
 pub separation_exact : Exact separation
 separation_exact = record { admitted_leads_on = keeps; allowed_is_admitted = λ t c e law fits can sep after. leads t c e law fits can after }

@@ -13,13 +13,13 @@ use Rattle.monitor.specs.declared.cells.Whose.TheVariants.{Anyone}
 use Rattle.monitor.specs.Cells.{active_in}
 use Rattle.monitor.specs.Effect.{next}
 use Rattle.monitor.specs.Meaning.{Meaning}
-use Rattle.families.specs.Family.{family}
+use Rattle.families.specs.Family.{family, active_for}
 use Rattle.families.specs.declared.dependency.Unmet.{Unmet}
 use Rattle.families.specs.declared.dependency.Unmet.TheVariants.{NotActive}
 
 -- the role is active in some session
 abbrev pub active_anywhere : Cells → ℕ → Bool
-active_anywhere c r = has (active_in Anyone c.sessions) r
+active_anywhere c r = active_for c Anyone r
 
 -- role a depends on role b
 abbrev pub depends : Tables → ℕ → ℕ → Bool

@@ -1,13 +1,20 @@
 -- The meaning of a family of rules, from the states that it allows and the first of its questions that an event fails. Assumes nothing.
-use Rattle.std.specs.Prelude.{◌≡◌, ℕ, true, not, is_some, Some, None, Option, Ok, Err, Result}
+use Rattle.std.specs.Prelude.{◌≡◌, ℕ, Bool, true, not, is_some, Some, None, Option, Ok, Err, Result}
+use Rattle.sets.specs.Sets.{has}
 use Rattle.records.specs.declared.event.Event.{Event}
 use Rattle.policy.specs.declared.tables.Tables.{Tables}
 use Rattle.monitor.specs.declared.answer.Reason.{Reason}
 use Rattle.monitor.specs.declared.cells.Cells.{Cells}
+use Rattle.monitor.specs.declared.cells.Whose.{Whose}
 use Rattle.monitor.specs.Authority.{Fits}
+use Rattle.monitor.specs.Cells.{active_in}
 use Rattle.monitor.specs.Effect.{next}
 use Rattle.monitor.specs.Meaning.{Meaning, Lawful}
 use Rattle.monitor.specs.Possible.{Possible}
+
+-- the role is active in one of the sessions that are meant
+abbrev pub active_for : Cells → Whose → ℕ → Bool
+active_for c w r = has (active_in w c.sessions) r
 
 -- what a breach says, or d where there is none
 abbrev pub told : {X : Type 0} → (X → ℕ) → ℕ → Option X → ℕ

@@ -1,5 +1,5 @@
 -- Dependency keeps its laws, and is exact. It proves, for the law of the family, and assumes nothing.
-use Rattle.std.specs.Prelude.{◌≡◌, ℕ, ◌≤◌, true, false, not, ◌&&◌, ◌⊎◌, Some, None, Option, refl}
+use Rattle.std.specs.Prelude.{◌≡◌, ℕ, true, false, not, ◌&&◌, ◌⊎◌, None, refl}
 use Rattle.std.proofs.Common.{sym, ap, ◌∙◌, inl, inr, arith}
 use Rattle.std.specs.Option.{option_map}
 use Rattle.std.proofs.lemmas.Bool.{cases_Bool, and_from, and_left, and_right, not_from_true, both_ways, not_from_false}
@@ -15,18 +15,18 @@ use Rattle.monitor.specs.declared.cells.Cells.{Cells}
 use Rattle.monitor.specs.declared.cells.Session.TheVariants as session
 use Rattle.monitor.specs.declared.cells.Whose.TheVariants.{Anyone}
 use Rattle.monitor.specs.Authority.{Fits}
-use Rattle.monitor.specs.Cells.{active, active_in, session_at, blank}
+use Rattle.monitor.specs.Cells.{active_in, session_at}
 use Rattle.monitor.specs.Effect.{next}
 use Rattle.monitor.specs.Meaning.{Lawful, Law}
 use Rattle.monitor.specs.Possible.{Possible}
-use Rattle.monitor.proofs.Begun.{all_closed}
-use Rattle.monitor.proofs.Sessions.{active_found, active-set, active_stays}
+use Rattle.monitor.proofs.Sessions.{active-set, active_stays}
 use Rattle.monitor.proofs.Steps.{yes_to}
 use Rattle.families.specs.Dependency.{active_anywhere, Met, missing, unmet, unmet_by, unmet_number, dependency}
-use Rattle.families.specs.Family.{Exact, told}
+use Rattle.families.specs.Family.{Exact}
 use Rattle.families.specs.declared.dependency.Unmet.{Unmet}
 use Rattle.families.specs.declared.dependency.Unmet.TheVariants.{NotActive}
-use Rattle.families.specs.Breaches.{admitted_none, none_admitted, mapped_none, none_has, was_closed}
+use Rattle.families.specs.Breaches.{Named, told_named, admitted_none, none_admitted, mapped_none}
+use Rattle.families.specs.Sessions.{none_has, none_begun, was_closed}
 
 -- nothing missing and everything met are the same
 met : (t : Tables) (c : Cells) → Lawful t → missing t c ≡ None → Met t c
@@ -78,15 +78,15 @@ leads t c (Close s) all = none_admitted _ (ap (option_map unmet) (nothing_missin
 leads t c (Activate s r) all = none_admitted _ (ap (option_map unmet) (nothing_missing t (next t c (Activate s r)) all))
 leads t c (Deactivate s r) all = none_admitted _ (ap (option_map unmet) (nothing_missing t (next t c (Deactivate s r)) all))
 
-new : (t : Tables) → Met t blank
-new t a b ha hd = let f = active_found Anyone blank.sessions a ha in none_has a (ap (λ x. has (active x) a) (sym (all_closed f.0)) ∙ f.3)
-
-named : (o : Option Unmet) → (1 ≤ told unmet_number 61 o) × (told unmet_number 61 o ≤ 255)
-named None = (omega arith, omega arith)
-named (Some (NotActive b)) = (omega arith, omega arith)
+named : (u : Unmet) → Named (unmet_number u)
+named (NotActive b) = (omega arith, omega arith)
 
 pub dependency_law : Law dependency
-dependency_law = record { fresh = λ t law. new t; keeps = keeps; named = λ t c e. named (unmet_by t c e) }
+dependency_law = record {
+  fresh = λ t law a b ha hd. none_begun Anyone a ha;
+  keeps = keeps;
+  named = λ t c e. told_named unmet_number 61 (omega arith, omega arith) named (unmet_by t c e);
+}
 
 pub dependency_exact : Exact dependency
 dependency_exact = record { admitted_leads_on = keeps; allowed_is_admitted = λ t c e law fits can all after. leads t c e after }

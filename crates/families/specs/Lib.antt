@@ -8,5 +8,6 @@ pub mod Worked
 pub mod Limits
 pub mod Leaning
 pub mod Breaches
+pub mod Sessions
 pub mod Required
 pub mod Apart

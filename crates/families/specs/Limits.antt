@@ -1,9 +1,9 @@
 -- Cardinality keeps the laws of a rule, and is exact. It proves, for the law of the family, and assumes nothing.
-use Rattle.std.specs.Prelude.{◌≡◌, ℕ, zero, suc, ◌≤◌, Bool, true, false, not, ◌⊎◌, List, [], ◌∷◌, get_or, is_some, Some, None, Option, ◌≢◌, slice_index_or, slice_set, refl}
+use Rattle.std.specs.Prelude.{◌≡◌, ℕ, zero, suc, ◌≤◌, Bool, true, false, not, List, [], ◌∷◌, get_or, Some, None, Option, slice_index_or, slice_set, refl}
 use Rattle.std.proofs.Common.{sym, ap, subst, ◌∙◌, inl, inr, arith}
 use Rattle.std.proofs.lemmas.List.{get_or-set_other}
-use Rattle.std.proofs.lemmas.Bool.{both_ways, cases_Bool, cases_eq, cases_lt, eqb-true, leb-true, le-leb, not-false, not_from_true}
-use Rattle.std.specs.Option.{option_map, option_or}
+use Rattle.std.proofs.lemmas.Bool.{cases_Bool, cases_eq, cases_lt, cond-true, false_from_ne_true, leb-true, le-leb, not-false, not_from_true}
+use Rattle.std.specs.Option.{option_map}
 use Rattle.sets.specs.Sets.{has, count_below}
 use Rattle.sets.specs.Aliases.{RoleSet}
 use Rattle.sets.proofs.Counts.{count_more, count_none}
@@ -17,21 +17,23 @@ use Rattle.policy.proofs.Members.{set_each}
 use Rattle.monitor.specs.declared.cells.Cells.{Cells}
 use Rattle.monitor.specs.declared.cells.Session.{Session}
 use Rattle.monitor.specs.declared.cells.Session.TheVariants as session
-use Rattle.monitor.specs.declared.cells.Whose.TheVariants.{User}
+use Rattle.monitor.specs.declared.cells.Whose.TheVariants.{Anyone, User}
 use Rattle.monitor.specs.Authority.{given, Fits}
-use Rattle.monitor.specs.Cells.{active, owner, counts, active_in, session_at, is_authorised, sessions_using, tally, blank}
+use Rattle.monitor.specs.Cells.{active, owner, active_in, session_at, is_authorised, sessions_using, tally, blank}
 use Rattle.monitor.specs.Effect.{next, put_session, without_role, activated, deactivated}
 use Rattle.monitor.specs.Meaning.{Law, Lawful}
 use Rattle.monitor.specs.Possible.{Possible}
 use Rattle.monitor.proofs.Begun.{all_closed, none_authorised}
 use Rattle.monitor.proofs.Entitled.{given_more, authorised-below}
-use Rattle.monitor.proofs.Sessions.{active-counted, active_found, active-set, using_none}
-use Rattle.monitor.proofs.Steps.{has_either, next_fits}
+use Rattle.monitor.proofs.Sessions.{active-set, using_none}
+use Rattle.monitor.proofs.Steps.{next_fits}
 use Rattle.families.specs.declared.cardinality.Breach.{Breach}
 use Rattle.families.specs.declared.cardinality.Breach.TheVariants.{UsersOfRole, RolesOfUser, ActiveOfUser, SessionsOfRole}
 use Rattle.families.specs.Cardinality.{limit_of_users, limit_of_roles, limit_of_active, limit_of_sessions, within, users_of, roles_of, active_of, sessions_of, WithinLimits}
 use Rattle.families.specs.Cardinality.{unless, over_users, over_by, breach_number, cardinality}
-use Rattle.families.specs.Family.{told, Exact}
+use Rattle.families.specs.Family.{Exact}
+use Rattle.families.specs.Breaches.{Named, told_named, admitted_none, none_admitted, mapped_none, none_first, first_none_of}
+use Rattle.families.specs.Sessions.{Within, none_has, none_begun, kept_active, laid_down, joined, took_up}
 
 -- counts and limits
 
@@ -43,37 +45,14 @@ none_within : (l : Option ℕ) (n : ℕ) → n ≡ 0 → within l n ≡ true
 none_within None n e = refl
 none_within (Some k) n e = le-leb n k (omega arith)
 
-never : {X : Type 0} (k n : ℕ) → n ≡ 0 → has n k ≡ true → X
-never k n e h = absurd (both_ways (has n k) (ap (λ m. has m k) e ∙ has-zero k) h)
+-- the questions
 
--- a possible event is admitted where no question is failed
+passed : (b : Bool) (x : Breach) (rest : Option Breach) → unless b x rest ≡ None → (b ≡ true) × (rest ≡ None)
+passed true x rest e = (refl, e)
+passed false x rest e = cc
 
-no_breach : (o : Option Breach) → not (is_some o) ≡ true → o ≡ None
-no_breach None e = refl
-no_breach (Some x) e = absurd (both_ways false refl e)
-
-admitted : (o : Option Breach) → o ≡ None → not (is_some o) ≡ true
-admitted o e = ap (λ (p : Option Breach). not (is_some p)) e
-
-assigned-parts : (o : Option ℕ) (b : Bool) (u : ℕ) → option_or (option_map UsersOfRole o) (unless b (RolesOfUser u) None) ≡ None → (o ≡ None) × (b ≡ true)
-assigned-parts None true u e = (refl, refl)
-assigned-parts None false u e = absurd (let z : ◌≡◌ {A = ℕ} 0 1 = cc in omega arith)
-assigned-parts (Some r) b u e = absurd (let z : ◌≡◌ {A = ℕ} 0 1 = cc in omega arith)
-
-assigned-passes : (o : Option ℕ) (b : Bool) (u : ℕ) → o ≡ None → b ≡ true → option_or (option_map UsersOfRole o) (unless b (RolesOfUser u) None) ≡ None
-assigned-passes None true u e f = refl
-assigned-passes None false u e f = absurd (both_ways false refl f)
-assigned-passes (Some r) b u e f = absurd (let z : ◌≡◌ {A = ℕ} 0 1 = cc in omega arith)
-
-activated-parts : (a b : Bool) (u r : ℕ) → unless a (ActiveOfUser u) (unless b (SessionsOfRole r) None) ≡ None → (a ≡ true) × (b ≡ true)
-activated-parts true true u r e = (refl, refl)
-activated-parts true false u r e = absurd (let z : ◌≡◌ {A = ℕ} 0 1 = cc in omega arith)
-activated-parts false b u r e = absurd (let z : ◌≡◌ {A = ℕ} 0 1 = cc in omega arith)
-
-activated-passes : (a b : Bool) (u r : ℕ) → a ≡ true → b ≡ true → unless a (ActiveOfUser u) (unless b (SessionsOfRole r) None) ≡ None
-activated-passes true true u r e f = refl
-activated-passes true false u r e f = absurd (both_ways false refl f)
-activated-passes false b u r e f = absurd (both_ways false refl e)
+passes : (b : Bool) (x : Breach) (rest : Option Breach) → b ≡ true → rest ≡ None → unless b x rest ≡ None
+passes b x rest e f = cond-true b rest (Some x) e ∙ f
 
 -- the sessions, with another in the place of one
 
@@ -87,66 +66,38 @@ using_less [] s r x h = omega arith
 using_less (y ∷ xs) zero r x h = let here = tally_less (has (active x) r) (has (active y) r) h in omega arith
 using_less (y ∷ xs) (suc s) r x h = let ih = using_less xs s r x h in omega arith
 
-activated-only : (r k : ℕ) (x : Session) → (k ≢ r) → has (active (activated r x)) k ≡ true → has (active x) k ≡ true
-activated-only r k session.Closed ne h = h
-activated-only r k (session.Open o a) ne h = elim (has_either a r k h) [ inl p ↦ p | inr e ↦ absurd (ne e) ]
-
-activated-owner : (r v : ℕ) (x : Session) → counts (User v) (activated r x) ≡ true → v ≡ owner x
-activated-owner r v session.Closed e = absurd (both_ways false refl e)
-activated-owner r v (session.Open o a) e = sym (eqb-true o v e)
-
-deactivated-only : (r k : ℕ) (x : Session) → has (active (deactivated r x)) k ≡ true → has (active x) k ≡ true
-deactivated-only r k session.Closed h = h
-deactivated-only r k (session.Open o a) h = has-without_member 32 a.bits r k h
-
-deactivated-owner : (r v : ℕ) (x : Session) → counts (User v) (deactivated r x) ≡ true → counts (User v) x ≡ true
-deactivated-owner r v session.Closed e = e
-deactivated-owner r v (session.Open o a) e = e
-
 -- a new state has nothing to count
 none_active : (u k : ℕ) → has (active_in (User u) blank.sessions) k ≡ false
-none_active u k = elim (cases_Bool (has (active_in (User u) blank.sessions) k)) [
-  | inl h ↦ let f = active_found (User u) blank.sessions k h in never k _ (ap active (all_closed f.0)) f.3
-  | inr h ↦ h
-]
+none_active u k = false_from_ne_true _ (λ h. none_begun (User u) k h)
 
-none_has : (u r : ℕ) → is_authorised blank u r ≡ false
-none_has u r = ap (λ (s : RoleSet). has s.bits r) (none_authorised u) ∙ has-zero r
+nobody_has : (u r : ℕ) → is_authorised blank u r ≡ false
+nobody_has u r = ap (λ (s : RoleSet). has s.bits r) (none_authorised u) ∙ has-zero r
 
 blank-within : (t : Tables) → WithinLimits t blank
 blank-within t = record {
-  users = λ r. none_within (limit_of_users t r) _ (count_none 64 (λ u. is_authorised blank u r) (λ u l. none_has u r));
-  roles = λ u. none_within (limit_of_roles t u) _ (count_none 32 (λ r. is_authorised blank u r) (λ r l. none_has u r));
+  users = λ r. none_within (limit_of_users t r) _ (count_none 64 (λ u. is_authorised blank u r) (λ u l. nobody_has u r));
+  roles = λ u. none_within (limit_of_roles t u) _ (count_none 32 (λ r. is_authorised blank u r) (λ r l. nobody_has u r));
   active = λ u. none_within (limit_of_active t u) _ (count_none 32 (λ r. has (active_in (User u) blank.sessions) r) (λ r l. none_active u r));
   sessions = λ r. none_within (limit_of_sessions t r) _ (using_none blank.sessions r (λ s. ap (λ x. has (active x) r) (all_closed s) ∙ has-zero r));
 }
 
 module _ (t : Tables) (lawful : Lawful t) (c : Cells) (fits : Fits t c) (ok : WithinLimits t c) where
-  -- another session in the place of one, whose owner has no other role active by it
-  session-within : (s : ℕ) (x : Session)
-      → ((k : ℕ) → has (active x) k ≡ true → has (active (session_at c s)) k ≡ true)
-      → ((v k : ℕ) → counts (User v) x ≡ true → has (active x) k ≡ true → counts (User v) (session_at c s) ≡ true)
-      → WithinLimits t (put_session c s x)
-  session-within s x fewer same = record {
+  -- a session with no more active in the place of one
+  session-within : (s : ℕ) (x : Session) → Within x (session_at c s) → WithinLimits t (put_session c s x)
+  session-within s x less = record {
     users = ok.users;
     roles = ok.roles;
     active = λ v. less_within (limit_of_active t v) _ (active_of c v)
-        (count_more 32 (has (active_in (User v) (slice_set c.sessions s x))) (has (active_in (User v) c.sessions)) (λ k l h. was v k (active-set (User v) c.sessions s k x h)))
-        (ok.active v);
-    sessions = λ r. less_within (limit_of_sessions t r) _ (sessions_of c r) (using_less c.sessions s r x (fewer r)) (ok.sessions r);
+        (count_more 32 (has (active_in (User v) (slice_set c.sessions s x))) (has (active_in (User v) c.sessions)) (λ k l h. kept_active c s x less (User v) k h)) (ok.active v);
+    sessions = λ r. less_within (limit_of_sessions t r) _ (sessions_of c r) (using_less c.sessions s r x (λ h. (less Anyone r refl h).1)) (ok.sessions r);
   }
-    where
-      was : (v k : ℕ) → (has (active_in (User v) c.sessions) k ≡ true) ⊎ ((counts (User v) x ≡ true) × (has (active x) k ≡ true))
-          → has (active_in (User v) c.sessions) k ≡ true
-      was v k (inl h) = h
-      was v k (inr p) = active-counted (User v) c.sessions s k (same v k p.0 p.1) (fewer k p.1)
 
   assign_within : (u r : ℕ) → Possible t c (Assign u r) → over_by t c (Assign u r) ≡ None → WithinLimits t (next t c (Assign u r))
   assign_within u r can e =
       record { users = users; roles = roles; active = ok.active; sessions = ok.sessions }
     where
       parts : (over_users t (next t c (Assign u r)) ≡ None) × (within (limit_of_roles t u) (roles_of (next t c (Assign u r)) u) ≡ true)
-      parts = assigned-parts _ _ u e
+      parts = let n = none_first _ _ e in (mapped_none UsersOfRole _ n.0, (passed _ _ _ n.1).0)
 
       users : (b : ℕ) → within (limit_of_users t b) (users_of (next t c (Assign u r)) b) ≡ true
       users b = elim (cases_lt b 32) [
@@ -189,7 +140,7 @@ module _ (t : Tables) (lawful : Lawful t) (c : Cells) (fits : Fits t c) (ok : Wi
     where
       parts : (within (limit_of_active t (owner (session_at c s))) (active_of (next t c (Activate s r)) (owner (session_at c s))) ≡ true)
           × (within (limit_of_sessions t r) (sessions_of (next t c (Activate s r)) r) ≡ true)
-      parts = activated-parts _ _ (owner (session_at c s)) r e
+      parts = let n = passed _ _ _ e in (n.0, (passed _ _ _ n.1).0)
 
       actives : (v : ℕ) → within (limit_of_active t v) (active_of (next t c (Activate s r)) v) ≡ true
       actives v = elim (cases_eq v (owner (session_at c s))) [
@@ -198,7 +149,7 @@ module _ (t : Tables) (lawful : Lawful t) (c : Cells) (fits : Fits t c) (ok : Wi
             (count_more 32 (has (active_in (User v) (slice_set c.sessions s (activated r (session_at c s))))) (has (active_in (User v) c.sessions))
             (λ k l h. elim (active-set (User v) c.sessions s k (activated r (session_at c s)) h) [
               | inl p ↦ p
-              | inr p ↦ absurd (ne (activated-owner r v (session_at c s) p.0))
+              | inr p ↦ absurd (ne (took_up (session_at c s) r v k p.0 p.1).0)
             ]))
             (ok.active v)
       ]
@@ -207,7 +158,7 @@ module _ (t : Tables) (lawful : Lawful t) (c : Cells) (fits : Fits t c) (ok : Wi
       uses k = elim (cases_eq k r) [
         | inl q ↦ subst (λ i. within (limit_of_sessions t i) (sessions_of (next t c (Activate s r)) i) ≡ true) (sym q) parts.1
         | inr ne ↦ less_within (limit_of_sessions t k) _ (sessions_of c k)
-            (using_less c.sessions s k (activated r (session_at c s)) (activated-only r k (session_at c s) ne)) (ok.sessions k)
+            (using_less c.sessions s k (activated r (session_at c s)) (λ h. elim (joined (session_at c s) r k h) [ inl p ↦ p | inr q ↦ absurd (ne q) ])) (ok.sessions k)
       ]
 
   next-within : (e : Event) → Possible t c e → over_by t c e ≡ None → WithinLimits t (next t c e)
@@ -215,40 +166,39 @@ module _ (t : Tables) (lawful : Lawful t) (c : Cells) (fits : Fits t c) (ok : Wi
   next-within (Deassign u r) can e = deassign_within u r
   next-within (Enable r) can e = record { users = ok.users; roles = ok.roles; active = ok.active; sessions = ok.sessions }
   next-within (Disable r) can e = record { users = ok.users; roles = ok.roles; active = ok.active; sessions = ok.sessions }
-  next-within (Open s u) can e = session-within s (session.Open u no_roles) (λ k h. never k 0 refl h) (λ v k q h. never k 0 refl h)
-  next-within (Close s) can e = session-within s session.Closed (λ k h. never k 0 refl h) (λ v k q h. never k 0 refl h)
+  next-within (Open s u) can e = session-within s (session.Open u no_roles) (λ w k a h. none_has k h)
+  next-within (Close s) can e = session-within s session.Closed (λ w k a h. none_has k h)
   next-within (Activate s r) can e = activate_within s r e
-  next-within (Deactivate s r) can e =
-      session-within s (deactivated r (session_at c s)) (λ k. deactivated-only r k (session_at c s)) (λ v k q h. deactivated-owner r v (session_at c s) q)
+  next-within (Deactivate s r) can e = session-within s (deactivated r (session_at c s)) (laid_down (session_at c s) r)
 
 -- the questions are put to the state after
 within-passes : (t : Tables) (c : Cells) (e : Event) → WithinLimits t (next t c e) → over_by t c e ≡ None
 within-passes t c (Assign u r) ok =
-    assigned-passes _ _ u (first_never 32 (λ b. not (within (limit_of_users t b) (users_of (next t c (Assign u r)) b))) (λ b l. not_from_true _ (ok.users b))) (ok.roles u)
+    first_none_of _ _ (ap (option_map UsersOfRole) (first_never 32 (λ b. not (within (limit_of_users t b) (users_of (next t c (Assign u r)) b))) (λ b l. not_from_true _ (ok.users b))))
+    (passes _ _ _ (ok.roles u) refl)
 within-passes t c (Deassign u r) ok = refl
 within-passes t c (Enable r) ok = refl
 within-passes t c (Disable r) ok = refl
 within-passes t c (Open s u) ok = refl
 within-passes t c (Close s) ok = refl
-within-passes t c (Activate s r) ok = activated-passes _ _ (owner (session_at c s)) r (ok.active (owner (session_at c s))) (ok.sessions r)
+within-passes t c (Activate s r) ok = passes _ _ _ (ok.active (owner (session_at c s))) (passes _ _ _ (ok.sessions r) refl)
 within-passes t c (Deactivate s r) ok = refl
 
-numbered : (o : Option Breach) → (1 ≤ told breach_number 41 o) × (told breach_number 41 o ≤ 255)
-numbered None = (omega arith, omega arith)
-numbered (Some (UsersOfRole r)) = (omega arith, omega arith)
-numbered (Some (RolesOfUser u)) = (omega arith, omega arith)
-numbered (Some (ActiveOfUser u)) = (omega arith, omega arith)
-numbered (Some (SessionsOfRole r)) = (omega arith, omega arith)
+named : (x : Breach) → Named (breach_number x)
+named (UsersOfRole r) = (omega arith, omega arith)
+named (RolesOfUser u) = (omega arith, omega arith)
+named (ActiveOfUser u) = (omega arith, omega arith)
+named (SessionsOfRole r) = (omega arith, omega arith)
 
 pub cardinality_law : Law cardinality
 cardinality_law = record {
   fresh = λ t lawful. blank-within t;
-  keeps = λ t c e lawful fits can ok yes. next-within t lawful c fits ok e can (no_breach (over_by t c e) yes);
-  named = λ t c e. numbered (over_by t c e);
+  keeps = λ t c e lawful fits can ok yes. next-within t lawful c fits ok e can (admitted_none (over_by t c e) yes);
+  named = λ t c e. told_named breach_number 41 (omega arith, omega arith) named (over_by t c e);
 }
 
 pub cardinality_exact : Exact cardinality
 cardinality_exact = record {
-  admitted_leads_on = λ t c e lawful fits can ok yes. next-within t lawful c fits ok e can (no_breach (over_by t c e) yes);
-  allowed_is_admitted = λ t c e lawful fits can ok after. admitted (over_by t c e) (within-passes t c e after);
+  admitted_leads_on = λ t c e lawful fits can ok yes. next-within t lawful c fits ok e can (admitted_none (over_by t c e) yes);
+  allowed_is_admitted = λ t c e lawful fits can ok after. none_admitted (over_by t c e) (within-passes t c e after);
 }

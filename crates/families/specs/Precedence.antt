@@ -16,11 +16,10 @@ use Rattle.policy.specs.Entries.{no_roles}
 use Rattle.monitor.specs.declared.cells.Cells.{Cells}
 use Rattle.monitor.specs.declared.cells.Session.{Session}
 use Rattle.monitor.specs.declared.cells.Session.TheVariants as session
-use Rattle.monitor.specs.declared.cells.Whose.{Whose}
 use Rattle.monitor.specs.declared.cells.Whose.TheVariants.{Anyone, User}
-use Rattle.monitor.specs.Cells.{active_in, is_assigned, is_enabled, session_at}
+use Rattle.monitor.specs.Cells.{is_assigned, is_enabled, session_at}
 use Rattle.monitor.specs.Meaning.{Meaning}
-use Rattle.families.specs.Family.{family}
+use Rattle.families.specs.Family.{family, active_for}
 use Rattle.families.specs.declared.precedence.Lack.{Lack}
 use Rattle.families.specs.declared.precedence.Condition.{Condition}
 use Rattle.families.specs.declared.precedence.Condition.TheVariants.{Enabled, AssignedToUser, AssignedToAny, ActiveForAny, ActiveInSession, ActiveForOwner}
@@ -54,10 +53,6 @@ assigned_in (x ∷ xs) = union x.bits (assigned_in xs)
 -- the role is assigned to some user
 abbrev pub assigned_anywhere : Cells → ℕ → Bool
 assigned_anywhere c b = has (assigned_in c.assigned) b
-
--- the role is active in one of the sessions that are meant
-abbrev pub active_for : Cells → Whose → ℕ → Bool
-active_for c w b = has (active_in w c.sessions) b
 
 -- 51
 abbrev pub enable_lack : Tables → Cells → ℕ → Option Lack

@@ -1,5 +1,5 @@
 -- The laws of precedence, and the roles assigned to some user. It proves, for the law of the family, and assumes nothing.
-use Rattle.std.specs.Prelude.{◌≡◌, ℕ, zero, suc, ◌<◌, ◌≤◌, true, List, [], ◌∷◌, length, Some, None, Option}
+use Rattle.std.specs.Prelude.{◌≡◌, ℕ, zero, suc, ◌<◌, true, List, [], ◌∷◌, length}
 use Rattle.std.proofs.Common.{sym, ◌∙◌, inl, inr, arith}
 use Rattle.std.proofs.lemmas.Bool.{both_ways, or_cases, or_left, or_right}
 use Rattle.sets.specs.Aliases.{RoleSet}
@@ -7,9 +7,8 @@ use Rattle.sets.specs.Sets.{has}
 use Rattle.sets.proofs.Laws.{has-zero, has-union}
 use Rattle.policy.specs.Entries.{holds}
 use Rattle.monitor.specs.Meaning.{Law}
-use Rattle.families.specs.Family.{told}
+use Rattle.families.specs.Breaches.{Named, told_named}
 use Rattle.families.specs.Precedence.{assigned_in, condition_number, lacking_by, lack_number, precedence}
-use Rattle.families.specs.declared.precedence.Lack.{Lack}
 use Rattle.families.specs.declared.precedence.Condition.{Condition}
 use Rattle.families.specs.declared.precedence.Condition.TheVariants.{Enabled, AssignedToUser, AssignedToAny, ActiveForAny, ActiveInSession, ActiveForOwner}
 
@@ -28,7 +27,7 @@ assigned_found (x ∷ xs) b h =
     ]
 
 -- its numbers are 51 to 56
-named : (k : Condition) → (1 ≤ condition_number k) × (condition_number k ≤ 255)
+named : (k : Condition) → Named (condition_number k)
 named Enabled = (omega arith, omega arith)
 named AssignedToUser = (omega arith, omega arith)
 named AssignedToAny = (omega arith, omega arith)
@@ -36,9 +35,5 @@ named ActiveForAny = (omega arith, omega arith)
 named ActiveInSession = (omega arith, omega arith)
 named ActiveForOwner = (omega arith, omega arith)
 
-lack_named : (o : Option Lack) → (1 ≤ told lack_number 51 o) × (told lack_number 51 o ≤ 255)
-lack_named None = (omega arith, omega arith)
-lack_named (Some l) = named l.condition
-
 pub precedence_law : Law precedence
-precedence_law = record { fresh = λ t l. tt; keeps = λ t c e l f p a h. tt; named = λ t c e. lack_named (lacking_by t c e) }
+precedence_law = record { fresh = λ t l. tt; keeps = λ t c e l f p a h. tt; named = λ t c e. told_named lack_number 51 (omega arith, omega arith) (λ l. named l.condition) (lacking_by t c e) }

@@ -2,8 +2,9 @@
 ghost use Rattle.std.specs.Prelude.{◌≡◌, ℕ, ◌<◌, [], ◌∷◌};
 ghost use Rattle.std.specs.Option.{option_map};
 ghost use Rattle.sets.specs.Sets.{has};
-ghost use Rattle.families.specs.Family.{Exact, clear_of, at_top};
-ghost use Rattle.families.specs.Separation.{active_for, static_clash, dynamic_clash, user_clash, clash_by, clash_number, clash_subject, separation};
+ghost use Rattle.monitor.specs.declared.cells.Whose.TheVariants.{User};
+ghost use Rattle.families.specs.Family.{Exact, active_for, clear_of, at_top};
+ghost use Rattle.families.specs.Separation.{static_clash, dynamic_clash, user_clash, clash_by, clash_number, clash_subject, separation};
 ghost use Rattle.families.specs.declared.separation.Clash.TheVariants.{StaticRole, DynamicRole, ConflictingUser};
 ghost use Rattle.families.specs.Apart.{separation_law};
 ghost use Rattle.std.proofs.Common.{rules};
@@ -60,7 +61,7 @@ impl From<Clash> for Reason {
 
 // The users who have the role active.
 fn users_with(state: &State, role: u8) -> UserSet
-    ensures { (v : ℕ) → v < 64 → has result.bits v ≡ active_for state.now.cells v role }
+    ensures { (v : ℕ) → v < 64 → has result.bits v ≡ active_for state.now.cells (User v) role }
 {
     state
         .cells

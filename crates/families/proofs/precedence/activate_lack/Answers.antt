@@ -3,8 +3,8 @@ use Rattle.sets.specs.Sets.{has}
 use Rattle.sets.specs.Aliases.{RoleSet}
 use Rattle.monitor.specs.declared.cells.Whose.TheVariants.{Anyone, User}
 use Rattle.families.specs.declared.precedence.Condition.TheVariants.{ActiveForAny, ActiveInSession, ActiveForOwner}
-use Rattle.families.specs.Family.{clear_of}
-use Rattle.families.specs.Precedence.{active_for, lack}
+use Rattle.families.specs.Family.{active_for, clear_of}
+use Rattle.families.specs.Precedence.{lack}
 use Rattle.families.proofs.Clear.{stops, goes_on}
 use Rattle.families.proofs.precedence.activate_lack.Goals as goal
 

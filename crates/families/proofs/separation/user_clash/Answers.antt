@@ -3,14 +3,16 @@ use Rattle.sets.specs.Sets.{has}
 use Rattle.sets.specs.Aliases.{UserSet}
 use Rattle.sets.proofs.First.{first-same}
 use Rattle.policy.specs.Entries.{users_pair}
-use Rattle.families.specs.Separation.{active_for, user_clash}
+use Rattle.monitor.specs.declared.cells.Whose.TheVariants.{User}
+use Rattle.families.specs.Family.{active_for}
+use Rattle.families.specs.Separation.{user_clash}
 use Rattle.families.proofs.separation.user_clash.Goals as goal
 
 pub returns : goal.returns
 returns c =
     let t = c.args.asked.policy.now.draft.tables in
     let rivals : ℕ → Bool = users_pair t c.args.role c.args.owner in
-    let stands : ℕ → Bool = λ v. active_for c.args.asked.state.now.cells v c.args.role in
+    let stands : ℕ → Bool = λ v. active_for c.args.asked.state.now.cells (User v) c.args.role in
     let found : c.lowest.result ≡ user_clash t c.args.asked.state.now.cells c.args.owner c.args.role =
     c.lowest.ensures.value ∙ first-same 64 (has c.intersection-clashing.result.bits) (λ v. rivals v && stands v)
     (λ v l. c.intersection-clashing.ensures.members v ∙ ap (λ (s : UserSet). has s.bits v && has c.users_with.result.bits v) c.of-rivals.ensures
