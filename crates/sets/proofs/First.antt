@@ -3,6 +3,7 @@ use Rattle.std.proofs.Common.{◌≡◌, ℕ, zero, suc, ◌+◌, ◌<◌, ◌�
 use mathlib.Core.Path.{fun_ext}
 use Rattle.std.specs.Option.{option_or, option_map}
 use Rattle.std.proofs.lemmas.Bool.{cases_lt, cond-true, cond-false}
+use Rattle.std.proofs.lemmas.Option.{none-some, cond_some}
 use Rattle.sets.specs.First.{first_of, first_below}
 
 -- no number below k has an answer
@@ -53,14 +54,13 @@ found k f x e =
     elim (found_or_none k f) [
       | inl s ↦ let y = found_at k f s.1.at s.0 s.1.within s.1.before s.1.answers in
           record { at = s.1.at; within = s.1.within; answers = s.1.answers ∙ sym y ∙ e; before = s.1.before }
-      | inr n ↦ let y = none_all k f n in absurd (let z : ◌≡◌ {A = ℕ} 0 1 = cc in omega arith)
+      | inr n ↦ absurd (none-some x (sym (none_all k f n) ∙ e))
     ]
 
 pub all_none : {A : Type 0} (k : ℕ) (f : ℕ → Option A) → first_of k f ≡ None → (j : ℕ) → j < k → f j ≡ None
 all_none k f e =
     elim (found_or_none k f) [
-      | inl s ↦ let y = found_at k f s.1.at s.0 s.1.within s.1.before s.1.answers in
-          absurd (let z : ◌≡◌ {A = ℕ} 0 1 = cc in omega arith)
+      | inl s ↦ absurd (none-some s.0 (sym e ∙ found_at k f s.1.at s.0 s.1.within s.1.before s.1.answers))
       | inr n ↦ n
     ]
 
@@ -83,12 +83,8 @@ pub record First (k : ℕ) (f : ℕ → Bool) (m : ℕ) : Type 0 where
   pub passes : f m ≡ true
   pub before : (j : ℕ) → j < m → f j ≡ false
 
-chosen : (b : Bool) (i m : ℕ) → cond b (Some i) None ≡ Some m → (b ≡ true) × (i ≡ m)
-chosen true i m e = (refl, cc)
-chosen false i m e = absurd (let z : ◌≡◌ {A = ℕ} 0 1 = cc in omega arith)
-
 left_out : (b : Bool) (i : ℕ) → cond b (Some i) None ≡ None → b ≡ false
-left_out true i e = absurd (let z : ◌≡◌ {A = ℕ} 0 1 = cc in omega arith)
+left_out true i e = absurd (none-some i (sym e))
 left_out false i e = refl
 
 pub first_never : (k : ℕ) (f : ℕ → Bool) → ((j : ℕ) → j < k → f j ≡ false) → first_below k f ≡ None
@@ -101,7 +97,7 @@ first_is k f m l t b =
 pub first_some : (k : ℕ) (f : ℕ → Bool) (m : ℕ) → first_below k f ≡ Some m → First k f m
 first_some k f m e =
     let s = found k (λ i. cond (f i) (Some i) None) m e in
-    let c = chosen (f s.at) s.at m s.answers in
+    let c = cond_some (f s.at) s.at m s.answers in
     record {
       within = omega (arith, s.within, c.1);
       passes = ap f (sym c.1) ∙ c.0;

@@ -7,6 +7,7 @@ use lib.Count.{ones, ones_step, count_trailing_zeros, under}
 use Rattle.std.specs.Int.{bit_at}
 use Rattle.std.proofs.lemmas.Nat.{pow_pos, pow_below, one_shl}
 use Rattle.std.proofs.lemmas.Nat.Bits.{bit_at_lowest, bit_at-suc, bit_at-zero, bit_at-pow_same, bit_at-pow_other, bit_at_above, bit_at_or, bit_at_and, bit_at-lt, same_from_bits_below, shr_and_one}
+use Rattle.std.proofs.Math.Bool.{or-false, and-true}
 use Rattle.std.proofs.lemmas.Bool.{eq-eqb, ne_eqb, eqb-true, eqb-false, lt-ltb, le-ltb, cases_Bool, cases_lt, cases_eq, cond-true, cond-false, and_from, and_left, and_right, not_from_false, both_ways, and_parts}
 use Rattle.sets.specs.First.{first_below}
 use Rattle.sets.proofs.First.{First, first_never, first_is}
@@ -147,20 +148,12 @@ pub without_past : (w n r : ℕ) → w ≤ r → without_member w n r ≡ n
 unfolding without_member
 without_past w n r l = cond-false (ltb r w) (bit_and n (2 ^ w - 1 - 2 ^ r)) n (le-ltb r w l)
 
-or_false : (t : Bool) → t ≡ (t || false)
-or_false true = refl
-or_false false = refl
-
-and_true : (t : Bool) → t ≡ (t && true)
-and_true true = refl
-and_true false = refl
-
 pub has-with : (w n r k : ℕ) → has (with_member w n r) k ≡ (has n k || (eqb k r && ltb k w))
 has-with w n r k =
     elim (cases_lt r w) [
       | inl l ↦ ap (λ (m : ℕ). has m k) (with-within w n r l) ∙ has-union n (2 ^ r) k
           ∙ ap (λ (t : Bool). has n k || t) (has_bit r k ∙ inside l)
-      | inr l ↦ ap (λ (m : ℕ). has m k) (with_past w n r l) ∙ or_false (has n k)
+      | inr l ↦ ap (λ (m : ℕ). has m k) (with_past w n r l) ∙ sym (or-false (has n k))
           ∙ ap (λ (t : Bool). has n k || t) (sym (outside l))
     ]
   where
@@ -187,7 +180,7 @@ has-without w n r k h =
     outside : w ≤ r → has n k ≡ (has n k && not (eqb k r))
     outside l = elim (cases_eq k r) [
       | inl e ↦ has_past w n k h (omega arith) ∙ sym (and_left (has n k) (not (eqb k r)) (has_past w n k h (omega arith)))
-      | inr e ↦ and_true (has n k) ∙ ap (λ (t : Bool). has n k && not t) (sym (ne_eqb k r e))
+      | inr e ↦ sym (and-true (has n k)) ∙ ap (λ (t : Bool). has n k && not t) (sym (ne_eqb k r e))
     ]
 
 -- below the width nothing is asked of n; and nothing but members stays
