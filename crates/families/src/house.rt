@@ -1,7 +1,7 @@
 // The house pile: cardinality, separation, precedence, dependency, from the top.
 ghost use Rattle.std.specs.Prelude.{◌≡◌, ℕ, ◌<◌, min, List, [], ◌∷◌, length};
 ghost use Rattle.records.specs.declared.event.Event.{Event};
-ghost use Rattle.monitor.specs.declared.answer.Answer.{Answer};
+ghost use Rattle.monitor.specs.Answers.{Answer};
 ghost use Rattle.monitor.specs.Cells.{blank};
 ghost use Rattle.monitor.specs.Ledgers.{answer_to, state_after, Adds};
 ghost use Rattle.monitor.specs.Lived.{Lived};

@@ -5,7 +5,7 @@ use Rattle.records.specs.declared.event.Event.{Event}
 use Rattle.records.specs.declared.fault.Fault.{Fault}
 use Rattle.records.specs.Events.{event_taken}
 use Rattle.policy.specs.declared.tables.Tables.{Tables}
-use Rattle.monitor.specs.declared.answer.Answer.{Answer}
+use Rattle.monitor.specs.Answers.{Answer}
 use Rattle.monitor.specs.declared.cells.Cells.{Cells}
 use Rattle.monitor.specs.declared.ledger.Ledger.{Ledger}
 use Rattle.monitor.specs.declared.row.Row.{Row}

@@ -1,19 +1,23 @@
 -- The law over whole runs, from the laws of the pile's rules alone.
 use Rattle.std.proofs.Common.{◌≡◌, ℕ, zero, suc, ◌+◌, ◌<◌, ◌≤◌, min, Bool, true, false, cond, List, [], ◌∷◌, ◌++◌, get_or, Some, None, Ok, Err, Option, sym, refl, ap, ◌∙◌, subst, subst₂, arith}
+use Rattle.std.specs.Result.{IsErrAnd}
 use Rattle.std.proofs.lemmas.Bool.{both_ways}
+use Rattle.std.proofs.lemmas.Result.{err_from_is_err_and}
+use Rattle.sets.specs.Aliases.{RoleSet}
 use Rattle.records.specs.declared.event.Event.{Event}
-use Rattle.policy.specs.declared.approved.Approved.{Approved}
 use Rattle.policy.specs.declared.tables.Tables.{Tables}
-use Rattle.monitor.specs.declared.answer.Answer.{Answer}
-use Rattle.monitor.specs.declared.answer.Answer.TheVariants.{Granted, Hindered, Refused}
+use Rattle.monitor.specs.Answers.{Answer}
+use Rattle.monitor.specs.declared.answer.Refusal.TheVariants.{Hindered, Refused}
 use Rattle.monitor.specs.declared.answer.Hindrance.{Hindrance}
 use Rattle.monitor.specs.declared.answer.Reason.{Reason}
 use Rattle.monitor.specs.declared.cells.Cells.{Cells}
+use Rattle.monitor.specs.declared.ledger.Ledger.{Ledger}
 use Rattle.monitor.specs.Authority.{Fits}
 use Rattle.monitor.specs.Cells.{sessions_using, tally, blank}
 use Rattle.monitor.specs.Counts.{activation, deactivation, closing, how_many}
 use Rattle.monitor.specs.Effect.{next, ended}
 use Rattle.monitor.specs.History.{reply_by, state_by, reply, step, replies, after}
+use Rattle.monitor.specs.Ledgers.{Adds}
 use Rattle.monitor.specs.Lived.{Lived, CarriesOn}
 use Rattle.monitor.specs.Meaning.{Meaning, Lawful, Law, Every, Ruling, ruling, deeper, own_reason}
 use Rattle.monitor.specs.Possible.{hindrance, Possible}
@@ -26,25 +30,13 @@ use Rattle.monitor.proofs.Steps.{next_fits}
 
 -- the three ways of one event: not possible, refused by a rule, granted
 by_way : (o : Option Hindrance) (v : Ruling) (roles : ℕ) (c n : Cells) (Q : Answer → Cells → Type 0)
-    → ((h : Hindrance) → o ≡ Some h → Q (Hindered h) c)
-    → ((r : Reason) → o ≡ None → v ≡ Err r → Q (Refused r) c)
-    → (o ≡ None → v ≡ Ok tt → Q (Granted (record { bits = roles })) n)
+    → ((h : Hindrance) → o ≡ Some h → Q (Err (Hindered h)) c)
+    → ((r : Reason) → o ≡ None → v ≡ Err r → Q (Err (Refused r)) c)
+    → (o ≡ None → v ≡ Ok tt → Q (Ok (record { bits = roles })) n)
     → Q (reply_by o v roles) (state_by o v c n)
 by_way (Some h) v roles c n Q a b g = a h refl
 by_way None (Err r) roles c n Q a b g = b r refl refl
 by_way None (Ok x) roles c n Q a b g = g refl refl
-
--- each way as the code takes it
-pub hindered_way : (ms : List Meaning) (t : Tables) (c : Cells) (e : Event) (h : Hindrance) → Some h ≡ hindrance t c e
-    → (Hindered h ≡ reply ms t c e) × (c ≡ step ms t c e)
-hindered_way ms t c e h eh = (ap (λ o. reply_by o (ruling ms t c e) (ended c e)) eh, ap (λ o. state_by o (ruling ms t c e) c (next t c e)) eh)
-
-pub possible_way : (ms : List Meaning) (t : Tables) (c : Cells) (e : Event) (v : Ruling) → None ≡ hindrance t c e → v ≡ ruling ms t c e
-    → (reply_by None v (ended c e) ≡ reply ms t c e) × (state_by None v c (next t c e) ≡ step ms t c e)
-possible_way ms t c e v eh ev = (
-  ap (λ o. reply_by o v (ended c e)) eh ∙ ap (λ x. reply_by (hindrance t c e) x (ended c e)) ev,
-  ap (λ o. state_by o v c (next t c e)) eh ∙ ap (λ x. state_by (hindrance t c e) x c (next t c e)) ev,
-)
 
 -- what a ruling says: all admit the event, or which rule is the topmost that does not
 abbrev Said : List Meaning → Tables → Cells → Event → Ruling → Type 0
@@ -185,7 +177,32 @@ carries_on ms law t ok c d es rs er ed old said past =
     (ap (λ x. x ++ rs) past.answered ∙ ap (λ x. replies ms t blank old ++ x) (er ∙ ap (λ k. replies ms t k es) past.reached) ∙ sym (replies_append ms t blank old es))
     (ed ∙ ap (λ k. after ms t k es) past.reached ∙ sym (after_append ms t blank old es))
 
--- of a single event
-pub decides : (ms : List Meaning) → Every Law ms → (p : Approved) (c d : Cells) (e : Event) (a : Answer)
-    → a ≡ reply ms p.draft.tables c e → d ≡ step ms p.draft.tables c e → CarriesOn ms p.draft.tables c (e ∷ []) (a ∷ []) d
-decides ms law p c d e a ea ed = carries_on ms law p.draft.tables (approved_lawful p) c d (e ∷ []) (a ∷ []) (ap (λ x. x ∷ []) ea) ed
+-- a single event of a ledger, in each of its three ways as the code takes it
+module _ (ms : List Meaning) (law : Every Law ms) (l : Ledger) (e : Event) where
+  abbrev t : Tables
+  t = l.policy.draft.tables
+
+  abbrev c : Cells
+  c = l.state.cells
+
+  one_more : (a : Answer) (d : Cells) → a ≡ reply ms t c e → d ≡ step ms t c e → Adds ms l (e ∷ []) (a ∷ []) d
+  one_more a d ea ed = carries_on ms law t (approved_lawful l.policy) c d (e ∷ []) (a ∷ []) (ap (λ x. x ∷ []) ea) ed
+
+  pub adds_hindered : (a : Answer) (h : Hindrance) → IsErrAnd a (λ r. r ≡ Hindered h) → Some h ≡ hindrance t c e → Adds ms l (e ∷ []) (a ∷ []) c
+  adds_hindered a h is eh =
+      let p = err_from_is_err_and a is in
+      one_more a c (p.1 ∙ ap (λ r. Err r) p.2 ∙ ap (λ o. reply_by o (ruling ms t c e) (ended c e)) eh) (ap (λ o. state_by o (ruling ms t c e) c (next t c e)) eh)
+
+  pub adds_refused : (a : Answer) (r : Reason) → IsErrAnd a (λ x. x ≡ Refused r) → None ≡ hindrance t c e → Err r ≡ ruling ms t c e → Adds ms l (e ∷ []) (a ∷ []) c
+  adds_refused a r is can er =
+      let p = err_from_is_err_and a is in
+      one_more a c
+      (p.1 ∙ ap (λ x. Err x) p.2 ∙ ap (λ o. reply_by o (Err r) (ended c e)) can ∙ ap (λ v. reply_by (hindrance t c e) v (ended c e)) er)
+      (ap (λ o. state_by o (Err r) c (next t c e)) can ∙ ap (λ v. state_by (hindrance t c e) v c (next t c e)) er)
+
+  pub adds_done : (roles : RoleSet) (d : Cells) → None ≡ hindrance t c e → Ok tt ≡ ruling ms t c e → roles ≡ record { bits = ended c e } → d ≡ next t c e
+      → Adds ms l (e ∷ []) (Ok roles ∷ []) d
+  adds_done roles d can none er ed =
+      one_more (Ok roles) d
+      (ap (λ x. Ok x) er ∙ ap (λ o. reply_by o (Ok tt) (ended c e)) can ∙ ap (λ v. reply_by (hindrance t c e) v (ended c e)) none)
+      (ed ∙ ap (λ o. state_by o (Ok tt) c (next t c e)) can ∙ ap (λ v. state_by (hindrance t c e) v c (next t c e)) none)

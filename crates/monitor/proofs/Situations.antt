@@ -6,7 +6,7 @@ use Rattle.policy.specs.declared.tables.Tables.{Tables}
 use Rattle.monitor.specs.declared.cells.Cells.{Cells}
 use Rattle.monitor.specs.declared.state.State.{State}
 
-pub asked_of : {X : Type 0} (f : Tables → Cells → Event → X) {p q : Approved} {s z : State} {e d : Event} → (p ≡ q) × ((s ≡ z) × (e ≡ d))
-    → f p.draft.tables s.cells e ≡ f q.draft.tables z.cells d
-asked_of f {p} {q} {s} {z} {e} {d} is =
-    ap (λ (x : Approved). f x.draft.tables s.cells e) is.0 ∙ ap (λ (x : State). f q.draft.tables x.cells e) is.1.0 ∙ ap (f q.draft.tables z.cells) is.1.1
+pub asked_of : {X : Type 0} (f : Tables → Cells → Event → X) {x : X} {p q : Approved} {s z : State} {e d : Event} → x ≡ f p.draft.tables s.cells e
+    → (p ≡ q) × ((s ≡ z) × (e ≡ d)) → x ≡ f q.draft.tables z.cells d
+asked_of f {x} {p} {q} {s} {z} {e} {d} h is =
+    h ∙ ap (λ (y : Approved). f y.draft.tables s.cells e) is.0 ∙ ap (λ (y : State). f q.draft.tables y.cells e) is.1.0 ∙ ap (f q.draft.tables z.cells) is.1.1

@@ -1,11 +1,15 @@
 -- The number, the subject, the place and the roles of each answer. Assumes nothing.
-use Rattle.std.specs.Prelude.{ℕ}
+use Rattle.std.specs.Prelude.{ℕ, Ok, Err, Result}
 use Rattle.sets.specs.Aliases.{RoleSet}
 use Rattle.policy.specs.Entries.{no_roles}
-use Rattle.monitor.specs.declared.answer.Answer.{Answer}
-use Rattle.monitor.specs.declared.answer.Answer.TheVariants.{Granted, Hindered, Refused}
+use Rattle.monitor.specs.declared.answer.Refusal.{Refusal}
+use Rattle.monitor.specs.declared.answer.Refusal.TheVariants.{Hindered, Refused}
 use Rattle.monitor.specs.declared.answer.Hindrance.{Hindrance}
 use Rattle.monitor.specs.declared.answer.Hindrance.TheVariants.{OutOfRange, AlreadyAuthorised, NotAssigned, AlreadyEnabled, NotEnabled, AlreadyOpen, NotOpen, RoleDisabled, NotAuthorised, AlreadyActive, NotActive, InUse, StillActive}
+
+-- done, with the roles that a granted closing ended; or not possible, or not admitted by a rule of the pile
+abbrev pub Answer : Type 0
+Answer = Result RoleSet Refusal
 
 abbrev pub hindrance_number : Hindrance → ℕ
 hindrance_number OutOfRange = 4
@@ -37,22 +41,30 @@ hindrance_subject NotActive = 0
 hindrance_subject InUse = 0
 hindrance_subject (StillActive role) = role
 
+abbrev pub refusal_number : Refusal → ℕ
+refusal_number (Hindered h) = hindrance_number h
+refusal_number (Refused reason) = reason.number
+
+abbrev pub refusal_subject : Refusal → ℕ
+refusal_subject (Hindered h) = hindrance_subject h
+refusal_subject (Refused reason) = reason.subject
+
+abbrev pub refusal_place : Refusal → ℕ
+refusal_place (Hindered h) = 0
+refusal_place (Refused reason) = reason.place
+
 abbrev pub number_of : Answer → ℕ
-number_of (Granted ended) = 0
-number_of (Hindered h) = hindrance_number h
-number_of (Refused reason) = reason.number
+number_of (Ok ended) = 0
+number_of (Err r) = refusal_number r
 
 abbrev pub subject_of : Answer → ℕ
-subject_of (Granted ended) = 0
-subject_of (Hindered h) = hindrance_subject h
-subject_of (Refused reason) = reason.subject
+subject_of (Ok ended) = 0
+subject_of (Err r) = refusal_subject r
 
 abbrev pub place_of : Answer → ℕ
-place_of (Granted ended) = 0
-place_of (Hindered h) = 0
-place_of (Refused reason) = reason.place
+place_of (Ok ended) = 0
+place_of (Err r) = refusal_place r
 
 abbrev pub roles_of : Answer → RoleSet
-roles_of (Granted ended) = ended
-roles_of (Hindered h) = no_roles
-roles_of (Refused reason) = no_roles
+roles_of (Ok ended) = ended
+roles_of (Err r) = no_roles

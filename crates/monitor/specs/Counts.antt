@@ -1,11 +1,9 @@
 -- How many granted events of a list began, laid down or closed a role's being active. Assumes nothing.
-use Rattle.std.specs.Prelude.{ℕ, ◌+◌, Bool, true, false, ◌&&◌, List, [], ◌∷◌, ◌==◌}
+use Rattle.std.specs.Prelude.{ℕ, ◌+◌, Bool, true, false, ◌&&◌, List, [], ◌∷◌, Ok, Err, ◌==◌}
 use Rattle.sets.specs.Sets.{has}
 use Rattle.records.specs.declared.event.Event.{Event}
 use Rattle.records.specs.declared.event.Event.TheVariants.{Assign, Deassign, Enable, Disable, Open, Close, Activate, Deactivate}
-use Rattle.monitor.specs.declared.answer.Answer.{Answer}
-use Rattle.monitor.specs.declared.answer.Answer.TheVariants.{Granted, Hindered, Refused}
-use Rattle.monitor.specs.Answers.{roles_of}
+use Rattle.monitor.specs.Answers.{Answer, roles_of}
 use Rattle.monitor.specs.Cells.{tally}
 
 abbrev pub activates : Event → ℕ → Bool
@@ -39,9 +37,8 @@ closes (Activate s r) = false
 closes (Deactivate s r) = false
 
 abbrev pub granted : Answer → Bool
-granted (Granted ended) = true
-granted (Hindered h) = false
-granted (Refused reason) = false
+granted (Ok ended) = true
+granted (Err r) = false
 
 -- a granted activation of the role, a granted deactivation of it, a granted closing whose answer lists it
 abbrev pub activation : ℕ → Event → Answer → Bool

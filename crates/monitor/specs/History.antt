@@ -4,8 +4,8 @@
 use Rattle.std.specs.Prelude.{ℕ, List, [], ◌∷◌, Some, None, Ok, Err, Option}
 use Rattle.records.specs.declared.event.Event.{Event}
 use Rattle.policy.specs.declared.tables.Tables.{Tables}
-use Rattle.monitor.specs.declared.answer.Answer.{Answer}
-use Rattle.monitor.specs.declared.answer.Answer.TheVariants.{Granted, Hindered, Refused}
+use Rattle.monitor.specs.Answers.{Answer}
+use Rattle.monitor.specs.declared.answer.Refusal.TheVariants.{Hindered, Refused}
 use Rattle.monitor.specs.declared.answer.Hindrance.{Hindrance}
 use Rattle.monitor.specs.declared.cells.Cells.{Cells}
 use Rattle.monitor.specs.Effect.{next, ended}
@@ -14,9 +14,9 @@ use Rattle.monitor.specs.Possible.{hindrance}
 
 -- not possible, refused by the pile, or granted with the roles that it ends
 abbrev pub reply_by : Option Hindrance → Ruling → ℕ → Answer
-reply_by (Some h) v roles = Hindered h
-reply_by None (Err r) roles = Refused r
-reply_by None (Ok x) roles = Granted (record { bits = roles })
+reply_by (Some h) v roles = Err (Hindered h)
+reply_by None (Err r) roles = Err (Refused r)
+reply_by None (Ok x) roles = Ok (record { bits = roles })
 
 -- only a grant changes the state
 abbrev pub state_by : Option Hindrance → Ruling → Cells → Cells → Cells

@@ -1,7 +1,7 @@
 -- What a ledger's events are answered by the rules of a pile, and the state after them. Assumes nothing.
 use Rattle.std.specs.Prelude.{List}
 use Rattle.records.specs.declared.event.Event.{Event}
-use Rattle.monitor.specs.declared.answer.Answer.{Answer}
+use Rattle.monitor.specs.Answers.{Answer}
 use Rattle.monitor.specs.declared.cells.Cells.{Cells}
 use Rattle.monitor.specs.declared.ledger.Ledger.{Ledger}
 use Rattle.monitor.specs.History.{reply, step, replies, after}

@@ -2,12 +2,11 @@
 use Rattle.std.specs.Prelude.{ℕ, List, [], ◌∷◌, ◌++◌, length, drop}
 use Rattle.records.specs.declared.event.Event.{Event}
 use Rattle.records.specs.Events.{kind_of}
-use Rattle.monitor.specs.declared.answer.Answer.{Answer}
 use Rattle.monitor.specs.declared.cells.Cells.{Cells}
 use Rattle.monitor.specs.declared.ledger.Ledger.{Ledger}
 use Rattle.monitor.specs.declared.row.Row.{Row}
 use Rattle.monitor.specs.declared.run.Outcome.{Outcome}
-use Rattle.monitor.specs.Answers.{number_of, subject_of, place_of, roles_of}
+use Rattle.monitor.specs.Answers.{Answer, number_of, subject_of, place_of, roles_of}
 use Rattle.monitor.specs.Ledgers.{answers_to, state_after_all, Adds}
 use Rattle.monitor.specs.Meaning.{Meaning}
 use Rattle.monitor.specs.Scripts.{Script, script_of}

@@ -2,15 +2,14 @@
 --   Topmost    which rule of the pile refuses an event, and what it names
 --   Ruled      a possible event is refused exactly when some rule does not admit it
 --   Ran        a list of events, each not possible, refused by the topmost rule that does not admit it, or admitted by all and done
-use Rattle.std.specs.Prelude.{◌≡◌, ℕ, ◌+◌, ◌<◌, ◌≤◌, min, Bool, true, false, List, [], ◌∷◌, length, get_or, Some, slice_index, slice_index_or}
+use Rattle.std.specs.Prelude.{◌≡◌, ℕ, ◌+◌, ◌<◌, ◌≤◌, min, Bool, true, false, List, [], ◌∷◌, length, get_or, Some, Ok, Err, slice_index, slice_index_or}
 use Rattle.records.specs.declared.event.Event.{Event}
 use Rattle.policy.specs.declared.tables.Tables.{Tables}
-use Rattle.monitor.specs.declared.answer.Answer.{Answer}
-use Rattle.monitor.specs.declared.answer.Answer.TheVariants.{Granted, Hindered, Refused}
+use Rattle.monitor.specs.declared.answer.Refusal.TheVariants.{Hindered, Refused}
 use Rattle.monitor.specs.declared.answer.Hindrance.{Hindrance}
 use Rattle.monitor.specs.declared.answer.Reason.{Reason}
 use Rattle.monitor.specs.declared.cells.Cells.{Cells}
-use Rattle.monitor.specs.Answers.{number_of, subject_of, place_of}
+use Rattle.monitor.specs.Answers.{Answer, number_of, subject_of, place_of}
 use Rattle.monitor.specs.Effect.{next, ended}
 use Rattle.monitor.specs.Meaning.{Meaning, Every}
 use Rattle.monitor.specs.Possible.{hindrance, Possible}
@@ -46,8 +45,8 @@ pub record Ruled (ms : List Meaning) (t : Tables) (c : Cells) (e : Event) (a : A
 pub data Ran (ms : List Meaning) (t : Tables) : Cells → List Event → List Answer → Cells → Type 0 where
   done : (c : Cells) → Ran ms t c [] [] c
   hindered : (c z : Cells) (e : Event) (es : List Event) (rs : List Answer) (h : Hindrance) → hindrance t c e ≡ Some h
-      → Ran ms t c es rs z → Ran ms t c (e ∷ es) (Hindered h ∷ rs) z
+      → Ran ms t c es rs z → Ran ms t c (e ∷ es) (Err (Hindered h) ∷ rs) z
   refused : (c z : Cells) (e : Event) (es : List Event) (rs : List Answer) (r : Reason) → Possible t c e → Topmost ms t c e r.number r.subject r.place
-      → Ran ms t c es rs z → Ran ms t c (e ∷ es) (Refused r ∷ rs) z
+      → Ran ms t c es rs z → Ran ms t c (e ∷ es) (Err (Refused r) ∷ rs) z
   admitted_by_all : (c z : Cells) (e : Event) (es : List Event) (rs : List Answer) → Possible t c e → Every (λ m. m.admits t c e ≡ true) ms
-      → Ran ms t (next t c e) es rs z → Ran ms t c (e ∷ es) (Granted (record { bits = ended c e }) ∷ rs) z
+      → Ran ms t (next t c e) es rs z → Ran ms t c (e ∷ es) (Ok (record { bits = ended c e }) ∷ rs) z

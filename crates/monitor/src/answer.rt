@@ -1,6 +1,7 @@
 // What an event is answered.
 ghost use Rattle.std.specs.Prelude.{◌≡◌};
-ghost use Rattle.monitor.specs.Answers.{hindrance_number, hindrance_subject, number_of, subject_of, place_of, roles_of};
+ghost use Rattle.monitor.specs.declared.answer.Refusal.TheVariants.{Hindered, Refused};
+ghost use Rattle.monitor.specs.Answers.{hindrance_number, hindrance_subject, refusal_number, refusal_subject, refusal_place};
 
 use sets::RoleSet;
 
@@ -63,54 +64,60 @@ pub struct Reason {
     pub place: u8,
 }
 
-// The answer to an event.
+// Why an event is not done.
 #[derive(Clone, Copy)]
-pub enum Answer {
-    // done; a closed session's roles ended together
-    Granted { ended: RoleSet },
+pub enum Refusal {
     // not possible in this state
-    Hindered { hindrance: Hindrance },
+    Hindered(Hindrance),
     // possible, and not admitted by a rule of the pile
-    Refused { reason: Reason },
+    Refused(Reason),
 }
 
-impl Answer {
+// The answer to an event: done, with the roles that a closing ended together, or why not.
+pub type Answer = Result<RoleSet, Refusal>;
+
+impl Refusal {
     pub fn number(self) -> u8
-        ensures { result ≡ number_of self }
+        ensures { result ≡ refusal_number self }
     {
         match self {
-            Answer::Granted { .. } => 0,
-            Answer::Hindered { hindrance } => hindrance.number(),
-            Answer::Refused { reason } => reason.number,
+            Refusal::Hindered(hindrance) => hindrance.number(),
+            Refusal::Refused(reason) => reason.number,
         }
     }
 
     pub fn subject(self) -> u8
-        ensures { result ≡ subject_of self }
+        ensures { result ≡ refusal_subject self }
     {
         match self {
-            Answer::Granted { .. } => 0,
-            Answer::Hindered { hindrance } => hindrance.subject(),
-            Answer::Refused { reason } => reason.subject,
+            Refusal::Hindered(hindrance) => hindrance.subject(),
+            Refusal::Refused(reason) => reason.subject,
         }
     }
 
+    // The place of the rule in the pile; 0 where no rule was asked.
     pub fn place(self) -> u8
-        ensures { result ≡ place_of self }
+        ensures { result ≡ refusal_place self }
     {
         match self {
-            Answer::Refused { reason } => reason.place,
-            _ => 0,
+            Refusal::Hindered(_) => 0,
+            Refusal::Refused(reason) => reason.place,
         }
     }
+}
 
-    // The roles that a granted closing ended.
-    pub fn roles(self) -> RoleSet
-        ensures { result ≡ roles_of self }
-    {
-        match self {
-            Answer::Granted { ended } => ended,
-            _ => RoleSet::empty(),
-        }
+impl From<Hindrance> for Refusal {
+    ghost from_gives = { λ h r. r ≡ Hindered h };
+
+    fn from(hindrance: Hindrance) -> Refusal {
+        Refusal::Hindered(hindrance)
+    }
+}
+
+impl From<Reason> for Refusal {
+    ghost from_gives = { λ reason r. r ≡ Refused reason };
+
+    fn from(reason: Reason) -> Refusal {
+        Refusal::Refused(reason)
     }
 }

@@ -30,14 +30,12 @@ impl<'a> Situation<'a> {
         ensures hindrance { result_err result ≡ hindrance self.entry.policy.now.draft.tables self.entry.state.now.cells event }
         ensures asked { IfOk result (λ asked. (asked.policy.now ≡ self.entry.policy.now) × ((asked.state.now ≡ self.entry.state.now) × (asked.event ≡ event))) }
     {
+        self.possible(event)?;
         let Situation { policy, state } = self;
-        match self.hindered(event) {
-            Some(hindrance) => Err(hindrance),
-            None => Ok(Asked {
-                policy,
-                state,
-                event,
-            }),
-        }
+        Ok(Asked {
+            policy,
+            state,
+            event,
+        })
     }
 }

@@ -45,23 +45,14 @@ impl<P: Rule> Monitor<P> {
             policy: &policy,
             state: &state,
         };
-        let asked = match situation.ask(event) {
-            Err(hindrance) => return Answer::Hindered { hindrance },
-            Ok(asked) => asked,
+        let asked = situation.ask(event)?;
+        self.pile.consult(asked)?;
+        self.ledger = Ledger {
+            policy,
+            state: State {
+                cells: asked.moved(),
+            },
         };
-        match self.pile.consult(asked) {
-            Err(reason) => Answer::Refused { reason },
-            Ok(()) => {
-                self.ledger = Ledger {
-                    policy,
-                    state: State {
-                        cells: asked.moved(),
-                    },
-                };
-                Answer::Granted {
-                    ended: state.ending(event),
-                }
-            }
-        }
+        Ok(state.ending(event))
     }
 }

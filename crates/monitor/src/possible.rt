@@ -1,8 +1,8 @@
 // Whether an event is possible: its questions, in their order.
-ghost use Rattle.std.specs.Prelude.{◌≡◌};
+ghost use Rattle.std.specs.Prelude.{◌≡◌, None};
 ghost use Rattle.records.specs.declared.event.Event.TheVariants.{Assign, Deassign, Disable};
 ghost use Rattle.monitor.specs.Authority.{given, Gives};
-ghost use Rattle.monitor.specs.Possible.{hindrance, lost_with, may_activate, may_deactivate};
+ghost use Rattle.monitor.specs.Possible.{asked, hindrance, lost_with, may_activate, may_deactivate, ok_unless};
 
 use crate::answer::Hindrance;
 use crate::asked::Situation;
@@ -19,17 +19,20 @@ pub fn authority(policy: &Approved, assigned: RoleSet) -> RoleSet
     policy.seniority.below(assigned)
 }
 
+// One question: where the answer is no, the event is hindered.
+fn check(yes: bool, hindrance: Hindrance) -> Result<(), Hindrance>
+    ensures { result ≡ ok_unless (asked yes hindrance None) }
+{
+    if yes { Ok(()) } else { Err(hindrance) }
+}
+
 // The questions to a deactivation in a session, once its numbers are in range.
-fn deactivate_hindered(role: u8, session: Session) -> Option<Hindrance>
-    ensures { result ≡ may_deactivate role session }
+fn may_deactivate(role: u8, session: Session) -> Result<(), Hindrance>
+    ensures { result ≡ ok_unless (may_deactivate role session) }
 {
     match session {
-        Session::Closed => Some(Hindrance::NotOpen),
-        Session::Open { active, .. } => if active.contains(role) {
-            None
-        } else {
-            Some(Hindrance::NotActive)
-        },
+        Session::Closed => Err(Hindrance::NotOpen),
+        Session::Open { active, .. } => check(active.contains(role), Hindrance::NotActive),
     }
 }
 
@@ -46,118 +49,96 @@ impl<'a> Situation<'a> {
     }
 
     // The questions to an assignment.
-    fn assign_hindered(self, user: u8, role: u8) -> Option<Hindrance>
-        ensures { result ≡ hindrance self.entry.policy.now.draft.tables self.entry.state.now.cells (Assign user role) }
+    fn may_assign(self, user: u8, role: u8) -> Result<(), Hindrance>
+        ensures { result ≡ ok_unless (hindrance self.entry.policy.now.draft.tables self.entry.state.now.cells (Assign user role)) }
     {
         let sizes = self.policy.draft.tables.sizes;
-        if user >= sizes.users || role >= sizes.roles {
-            Some(Hindrance::OutOfRange)
-        } else if self.state.authorised(user).contains(role) {
-            Some(Hindrance::AlreadyAuthorised)
-        } else {
-            None
-        }
+        let in_range = user < sizes.users && role < sizes.roles;
+        check(in_range, Hindrance::OutOfRange)?;
+        let held = self.state.authorised(user);
+        check(!held.contains(role), Hindrance::AlreadyAuthorised)
     }
 
     // The questions to the end of an assignment.
-    fn deassign_hindered(self, user: u8, role: u8) -> Option<Hindrance>
-        ensures { result ≡ hindrance self.entry.policy.now.draft.tables self.entry.state.now.cells (Deassign user role) }
+    fn may_deassign(self, user: u8, role: u8) -> Result<(), Hindrance>
+        ensures { result ≡ ok_unless (hindrance self.entry.policy.now.draft.tables self.entry.state.now.cells (Deassign user role)) }
     {
         let sizes = self.policy.draft.tables.sizes;
-        if user >= sizes.users || role >= sizes.roles {
-            return Some(Hindrance::OutOfRange);
-        }
-        if !self.state.assigned(user).contains(role) {
-            return Some(Hindrance::NotAssigned);
-        }
+        let in_range = user < sizes.users && role < sizes.roles;
+        check(in_range, Hindrance::OutOfRange)?;
+        let held = self.state.assigned(user);
+        check(held.contains(role), Hindrance::NotAssigned)?;
         match self.lost(user, role) {
-            Some(role) => Some(Hindrance::StillActive { role }),
-            None => None,
+            Some(role) => Err(Hindrance::StillActive { role }),
+            None => Ok(()),
         }
     }
 
     // The questions to the disabling of a role.
-    fn disable_hindered(self, role: u8) -> Option<Hindrance>
-        ensures { result ≡ hindrance self.entry.policy.now.draft.tables self.entry.state.now.cells (Disable role) }
+    fn may_disable(self, role: u8) -> Result<(), Hindrance>
+        ensures { result ≡ ok_unless (hindrance self.entry.policy.now.draft.tables self.entry.state.now.cells (Disable role)) }
     {
-        if role >= self.policy.draft.tables.sizes.roles {
-            Some(Hindrance::OutOfRange)
-        } else if !self.state.cells.enabled.contains(role) {
-            Some(Hindrance::NotEnabled)
-        } else if self.state.active_in(Whose::Anyone).contains(role) {
-            Some(Hindrance::InUse)
-        } else {
-            None
-        }
+        let roles = self.policy.draft.tables.sizes.roles;
+        check(role < roles, Hindrance::OutOfRange)?;
+        let enabled = self.state.cells.enabled;
+        check(enabled.contains(role), Hindrance::NotEnabled)?;
+        let used = self.state.active_in(Whose::Anyone);
+        check(!used.contains(role), Hindrance::InUse)
     }
 
     // The questions to an activation in a session, once its numbers are in range.
-    fn activate_hindered(self, role: u8, session: Session) -> Option<Hindrance>
-        ensures { result ≡ may_activate self.entry.state.now.cells role session }
+    fn may_activate(self, role: u8, session: Session) -> Result<(), Hindrance>
+        ensures { result ≡ ok_unless (may_activate self.entry.state.now.cells role session) }
     {
-        match session {
-            Session::Closed => Some(Hindrance::NotOpen),
-            Session::Open { owner, active } => {
-                if !self.state.cells.enabled.contains(role) {
-                    Some(Hindrance::RoleDisabled)
-                } else if !self.state.authorised(owner).contains(role) {
-                    Some(Hindrance::NotAuthorised)
-                } else if active.contains(role) {
-                    Some(Hindrance::AlreadyActive)
-                } else {
-                    None
-                }
-            }
-        }
+        let Session::Open { owner, active } = session else {
+            return Err(Hindrance::NotOpen);
+        };
+        let enabled = self.state.cells.enabled;
+        check(enabled.contains(role), Hindrance::RoleDisabled)?;
+        let held = self.state.authorised(owner);
+        check(held.contains(role), Hindrance::NotAuthorised)?;
+        check(!active.contains(role), Hindrance::AlreadyActive)
     }
 
-    // The first question that the event fails, if it fails one.
-    pub fn hindered(self, event: Event) -> Option<Hindrance>
-        ensures { result ≡ hindrance self.entry.policy.now.draft.tables self.entry.state.now.cells event }
+    // The first question that the event fails, where it fails one.
+    pub fn possible(self, event: Event) -> Result<(), Hindrance>
+        ensures { result ≡ ok_unless (hindrance self.entry.policy.now.draft.tables self.entry.state.now.cells event) }
     {
         let sizes = self.policy.draft.tables.sizes;
+        let state = self.state;
         match event {
-            Event::Assign { user, role } => self.assign_hindered(user, role),
-            Event::Deassign { user, role } => self.deassign_hindered(user, role),
+            Event::Assign { user, role } => self.may_assign(user, role),
+            Event::Deassign { user, role } => self.may_deassign(user, role),
             Event::Enable { role } => {
-                if role >= sizes.roles {
-                    Some(Hindrance::OutOfRange)
-                } else if self.state.cells.enabled.contains(role) {
-                    Some(Hindrance::AlreadyEnabled)
-                } else {
-                    None
-                }
+                check(role < sizes.roles, Hindrance::OutOfRange)?;
+                let enabled = state.cells.enabled;
+                check(!enabled.contains(role), Hindrance::AlreadyEnabled)
             }
-            Event::Disable { role } => self.disable_hindered(role),
+            Event::Disable { role } => self.may_disable(role),
             Event::Open { session, user } => {
-                if session >= sizes.sessions || user >= sizes.users {
-                    return Some(Hindrance::OutOfRange);
-                }
-                match self.state.session(session) {
-                    Session::Closed => None,
-                    Session::Open { .. } => Some(Hindrance::AlreadyOpen),
+                let in_range = session < sizes.sessions && user < sizes.users;
+                check(in_range, Hindrance::OutOfRange)?;
+                match state.session(session) {
+                    Session::Closed => Ok(()),
+                    Session::Open { .. } => Err(Hindrance::AlreadyOpen),
                 }
             }
             Event::Close { session } => {
-                if session >= sizes.sessions {
-                    return Some(Hindrance::OutOfRange);
-                }
-                match self.state.session(session) {
-                    Session::Closed => Some(Hindrance::NotOpen),
-                    Session::Open { .. } => None,
+                check(session < sizes.sessions, Hindrance::OutOfRange)?;
+                match state.session(session) {
+                    Session::Closed => Err(Hindrance::NotOpen),
+                    Session::Open { .. } => Ok(()),
                 }
             }
             Event::Activate { session, role } => {
-                if session >= sizes.sessions || role >= sizes.roles {
-                    return Some(Hindrance::OutOfRange);
-                }
-                self.activate_hindered(role, self.state.session(session))
+                let in_range = session < sizes.sessions && role < sizes.roles;
+                check(in_range, Hindrance::OutOfRange)?;
+                self.may_activate(role, state.session(session))
             }
             Event::Deactivate { session, role } => {
-                if session >= sizes.sessions || role >= sizes.roles {
-                    return Some(Hindrance::OutOfRange);
-                }
-                deactivate_hindered(role, self.state.session(session))
+                let in_range = session < sizes.sessions && role < sizes.roles;
+                check(in_range, Hindrance::OutOfRange)?;
+                may_deactivate(role, state.session(session))
             }
         }
     }

@@ -21,12 +21,22 @@ impl Row {
     pub fn of(event: Event, answer: Answer) -> Row
         ensures { result ≡ row_of event answer }
     {
-        Row {
-            kind: event.kind(),
-            number: answer.number(),
-            subject: answer.subject(),
-            place: answer.place(),
-            roles: answer.roles(),
+        let kind = event.kind();
+        match answer {
+            Ok(roles) => Row {
+                kind,
+                number: 0,
+                subject: 0,
+                place: 0,
+                roles,
+            },
+            Err(refusal) => Row {
+                kind,
+                number: refusal.number(),
+                subject: refusal.subject(),
+                place: refusal.place(),
+                roles: RoleSet::empty(),
+            },
         }
     }
 }

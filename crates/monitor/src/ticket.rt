@@ -4,10 +4,11 @@ ghost use Rattle.records.specs.declared.event.Event.TheVariants as event;
 ghost use Rattle.monitor.specs.Ledgers.{answer_to, state_after, Adds};
 ghost use Rattle.monitor.specs.Tickets.{ticketed, handed_back};
 
-use crate::answer::Answer;
+use crate::answer::Refusal;
 use crate::decide::Monitor;
 use crate::rule::Rule;
 use records::event::Event;
+use sets::RoleSet;
 
 // The right to close one session. It is not copied, and may be let go only once it is spent.
 pub struct Ticket {
@@ -38,32 +39,36 @@ impl Ticket {
     pub fn leave(self) -> u8
         ensures { result ≡ self.session }
     {
-        let mut left = self;
-        left.spent = true;
-        left.session
+        let session = self.session;
+        self.spend();
+        session
+    }
+
+    // Uses the ticket up.
+    fn spend(self) {
+        let mut used = self;
+        used.spent = true;
     }
 }
 
 impl<P: Rule> Monitor<P> {
-    // The event open. A grant gives a ticket for the session; any other answer gives none.
-    pub fn open(&mut self, session: u8, user: u8) -> Result<Ticket, Answer>
+    // The event open. A grant gives a ticket for the session, a refusal gives none.
+    pub fn open(&mut self, session: u8, user: u8) -> Result<Ticket, Refusal>
         ensures answer { result ≡ ticketed session (answer_to (P.rules self.old.pile) self.old.ledger (event.Open session user)) }
         ensures state { self.new.ledger.state.cells ≡ state_after (P.rules self.old.pile) self.old.ledger (event.Open session user) }
         ensures policy { self.new.ledger.policy ≡ self.old.ledger.policy }
         ensures pile { self.new.pile ≡ self.old.pile }
         ensures law { Adds (P.rules self.old.pile) self.old.ledger (event.Open session user ∷ []) (answer_to (P.rules self.old.pile) self.old.ledger (event.Open session user) ∷ []) self.new.ledger.state.cells }
     {
-        match self.decide(Event::Open { session, user }) {
-            Answer::Granted { .. } => Ok(Ticket {
-                session,
-                spent: false,
-            }),
-            refusal => Err(refusal),
-        }
+        self.decide(Event::Open { session, user })?;
+        Ok(Ticket {
+            session,
+            spent: false,
+        })
     }
 
-    // The event close. A grant uses the ticket up; any other answer hands it back.
-    pub fn close(&mut self, ticket: Ticket) -> Result<Answer, (Ticket, Answer)>
+    // The event close. A grant uses the ticket up, a refusal hands it back.
+    pub fn close(&mut self, ticket: Ticket) -> Result<RoleSet, (Ticket, Refusal)>
         ensures answer { result ≡ handed_back ticket (answer_to (P.rules self.old.pile) self.old.ledger (event.Close ticket.session)) }
         ensures state { self.new.ledger.state.cells ≡ state_after (P.rules self.old.pile) self.old.ledger (event.Close ticket.session) }
         ensures policy { self.new.ledger.policy ≡ self.old.ledger.policy }
@@ -72,12 +77,11 @@ impl<P: Rule> Monitor<P> {
     {
         let session = ticket.session;
         match self.decide(Event::Close { session }) {
-            Answer::Granted { ended } => {
-                let mut ticket = ticket;
-                ticket.spent = true;
-                Ok(Answer::Granted { ended })
+            Ok(ended) => {
+                ticket.spend();
+                Ok(ended)
             }
-            refusal => Err((ticket, refusal)),
+            Err(refusal) => Err((ticket, refusal)),
         }
     }
 }

@@ -3,7 +3,7 @@ use Rattle.std.specs.Prelude.{◌≡◌, ℕ, ◌≤◌, List, ◌++◌, length,
 use Rattle.policy.specs.declared.tables.Tables.{Tables}
 use Rattle.policy.specs.Reading.{reading}
 use Rattle.policy.specs.Search.{verdict}
-use Rattle.monitor.specs.declared.answer.Answer.{Answer}
+use Rattle.monitor.specs.Answers.{Answer}
 use Rattle.monitor.specs.declared.cells.Cells.{Cells}
 use Rattle.monitor.specs.Lived.{Lived}
 use Rattle.monitor.specs.Meaning.{Meaning}

@@ -8,7 +8,7 @@ use Rattle.policy.specs.declared.tables.Tables.{Tables}
 use Rattle.policy.specs.Reading.{reading}
 use Rattle.policy.specs.Search.{verdict}
 use Rattle.policy.specs.Verdicts.{number_of}
-use Rattle.monitor.specs.declared.answer.Answer.{Answer}
+use Rattle.monitor.specs.Answers.{Answer}
 use Rattle.monitor.specs.declared.cells.Cells.{Cells}
 use Rattle.monitor.specs.declared.row.Row.{Row}
 use Rattle.monitor.specs.Cells.{blank}

@@ -31,9 +31,7 @@ impl Log {
 }
 
 fn granted() -> Answer {
-    Answer::Granted {
-        ended: RoleSet::empty(),
-    }
+    Ok(RoleSet::empty())
 }
 
 // Decides one event that needs no ticket.
@@ -50,8 +48,8 @@ fn open(monitor: &mut Monitor<House>, log: &mut Log, session: u8, user: u8) -> O
             log.note(event, granted());
             Some(ticket)
         }
-        Err(answer) => {
-            log.note(event, answer);
+        Err(refusal) => {
+            log.note(event, Err(refusal));
             None
         }
     }
@@ -63,9 +61,9 @@ fn close_or_leave(monitor: &mut Monitor<House>, log: &mut Log, ticket: Ticket) {
         session: ticket.session(),
     };
     match monitor.close(ticket) {
-        Ok(answer) => log.note(event, answer),
-        Err((ticket, answer)) => {
-            log.note(event, answer);
+        Ok(ended) => log.note(event, Ok(ended)),
+        Err((ticket, refusal)) => {
+            log.note(event, Err(refusal));
             let _ = ticket.leave();
         }
     }
@@ -77,12 +75,12 @@ fn close_both(monitor: &mut Monitor<House>, log: &mut Log, scanning: Ticket, che
         session: scanning.session(),
     };
     match monitor.close(scanning) {
-        Ok(answer) => {
-            log.note(event, answer);
+        Ok(ended) => {
+            log.note(event, Ok(ended));
             close_or_leave(monitor, log, checking);
         }
-        Err((scanning, answer)) => {
-            log.note(event, answer);
+        Err((scanning, refusal)) => {
+            log.note(event, Err(refusal));
             close_or_leave(monitor, log, checking);
             close_or_leave(monitor, log, scanning);
         }
