@@ -96,6 +96,7 @@ fn sessions_of(cells: &Cells, role: u8) -> u32
     u32::from(using_among(&cells.sessions, role))
 }
 
+// Kept: three functions take the tables and the cells; a struct of the two would lengthen each contract and shorten no body.
 // The lowest role that is over its limit of users.
 fn over_users(tables: &Tables, cells: &Cells) -> Option<u8>
     ensures { result ≡ over_users tables.now cells.now }
@@ -180,6 +181,7 @@ impl Rule for Cardinality {
 }
 
 impl Cardinality {
+    // Kept: three families have such a call; each carries a theorem of its own, and a trait of theirs would say no more.
     // How many rules there are: one, which admits a possible event exactly when it allows the state that a grant makes.
     pub fn exactness(&self) -> u8
         ensures value { result ≡ 1 }

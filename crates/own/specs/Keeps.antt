@@ -4,7 +4,7 @@ use Rattle.std.specs.Prelude.{◌≡◌, ℕ, true, not, ◌&&◌, ◌⊎◌, �
 use Rattle.std.proofs.Common.{sym, ap, ◌∙◌, inl, inr}
 use Rattle.std.proofs.lemmas.Bool.{both_ways, eq-eqb, and_from, not-true}
 use Rattle.sets.specs.Sets.{has}
-use Rattle.sets.proofs.Laws.{has-zero, has-without_member}
+use Rattle.sets.proofs.Laws.{empty_none, has-without_member}
 use Rattle.records.specs.declared.event.Event.{Event}
 use Rattle.records.specs.declared.event.Event.TheVariants.{Assign, Deassign, Enable, Disable, Open, Close, Activate, Deactivate}
 use Rattle.policy.specs.declared.tables.Tables.{Tables}
@@ -22,7 +22,7 @@ use Rattle.monitor.proofs.Steps.{has_either, own_counts}
 use Rattle.own.specs.Once.{Once}
 
 never : {X : Type 0} (r n : ℕ) → n ≡ 0 → has n r ≡ true → X
-never r n e h = absurd (both_ways (has n r) (ap (λ m. has m r) e ∙ has-zero r) h)
+never r n e h = absurd (both_ways (has n r) (empty_none n e r) h)
 
 -- in a new state no role is active
 pub blank_once : (q : ℕ) → Once q blank

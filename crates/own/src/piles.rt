@@ -9,6 +9,7 @@ pub type Twofold<P> = Pair<P, P>;
 pub type Fourfold<P> = Twofold<Twofold<P>>;
 
 // Piles of so many of the rule. A higher one has a struct of its own among its parts, since a type may name only so many others.
+// Kept: one name for each height, since no type is computed from a number.
 pub type One = Own<OncePerUser>;
 
 pub type Two = Twofold<One>;

@@ -3,7 +3,7 @@ ghost use Rattle.std.specs.Prelude.{replicate};
 ghost use Rattle.own.specs.Lenient.{lenient};
 ghost use Rattle.std.proofs.Common.{rules};
 
-use crate::piles::{Fourfold, One, Two, Twofold};
+use crate::piles::{Fourfold, One, SixtyFour, Two, Twofold};
 use monitor::answer::Reason;
 use monitor::asked::Asked;
 use monitor::own::{Objection, Own, OwnRule};
@@ -48,36 +48,24 @@ impl Rule for SixteenLenient {
     }
 }
 
-// The pile, 1, 4, 16 or 64 times, has so many places.
+// The pile has so many places.
 fn counts<P: Default + Rule + Drop>(rt: &impl Abort, places: u8) {
     assert_eq!(rt; P::default().places(), places);
-}
-
-fn four_count<P: Default + Rule + Drop>(rt: &impl Abort, places: u8) {
-    counts::<Fourfold<P>>(rt, places);
-}
-
-fn sixteen_count<P: Default + Rule + Drop>(rt: &impl Abort, places: u8) {
-    four_count::<Fourfold<P>>(rt, places);
-}
-
-fn sixty_four_count<P: Default + Rule + Drop>(rt: &impl Abort, places: u8) {
-    sixteen_count::<Fourfold<P>>(rt, places);
 }
 
 #[test]
 fn places_up_to_64(rt: HostRuntime) {
     counts::<One>(&rt, 1);
     counts::<Two>(&rt, 2);
-    sixty_four_count::<One>(&rt, 64);
+    counts::<SixtyFour>(&rt, 64);
 }
 
 #[test]
 fn places_of_128(rt: HostRuntime) {
-    four_count::<Twofold<SixteenLenient>>(&rt, 128);
+    counts::<Fourfold<Twofold<SixteenLenient>>>(&rt, 128);
 }
 
 #[test]
 fn places_of_256(rt: HostRuntime) {
-    sixteen_count::<SixteenLenient>(&rt, 255);
+    counts::<Fourfold<Fourfold<SixteenLenient>>>(&rt, 255);
 }
