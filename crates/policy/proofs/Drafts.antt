@@ -10,23 +10,7 @@ use Rattle.policy.specs.WellFormed.{WellFormed}
 use Rattle.policy.proofs.Verdicts.{verdict_right}
 
 pub well_formed : (d : Draft) → WellFormed d.tables
-well_formed d = record {
-  users_sized = d.usersized;
-  roles_sized = d.rolesized;
-  sessions_sized = d.sessionsized;
-  juniors_within = d.juniorwithin;
-  needs_within = d.needwithin;
-  ssd_wide = d.staticwide;
-  ssd_within = d.staticwithin;
-  ssd_mutual = d.staticmutual;
-  dsd_wide = d.dynamicwide;
-  dsd_within = d.dynamicwithin;
-  dsd_mutual = d.dynamicmutual;
-  users_wide = d.userwide;
-  users_within = d.userwithin;
-  users_mutual = d.usermutual;
-  users_apart = d.userapart;
-}
+well_formed d = d.formed
 
 pub vetted : (d : Draft) (v : Verdict) → v ≡ verdict d.tables → Vetted d.tables v
 vetted d v e = subst (Vetted d.tables) (sym e) (verdict_right d.tables (well_formed d))

@@ -1,5 +1,5 @@
 -- What holds of the tables of every draft. Assumes nothing.
--- They are stated one by one, each with one proof at most, so that a draft can carry them.
+-- A draft carries all of them, as `WellFormed`.
 --   Sized         a size is at least 1 and within its limit
 --   Wide          every row of a table of roles is there
 --   Within        only roles of the policy stand in the rows

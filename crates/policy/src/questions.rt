@@ -93,6 +93,7 @@ impl Questions<'_> {
 
     // A senior role without the static conflict of its junior: the first triple of all, then left by the label.
     // Kept: the project fixes three nested loops that are left by a label.
+    #[tactic(auto, unfolding(sets::specs::First::first_of))]
     fn find_lost_conflict(&self) -> Option<Failure>
         ensures { result ≡ lost_conflict_found self.now.seniority.now.rows self.now.tables.now }
     {

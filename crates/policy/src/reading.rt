@@ -22,6 +22,7 @@ const ONE_EACH: Sizes = Sizes {
 };
 
 // Tables with these sizes, and nothing else.
+#[tactic(auto, unfolding(crate::specs::Updates::only))]
 fn only(sizes: Sizes) -> Tables
     ensures { result ≡ only sizes }
 {
@@ -221,6 +222,7 @@ fn read_tables(bytes: &[u8]) -> Result<(Tables, usize), Fault>
 
 impl Draft {
     // The bare draft: one user, role and session, and nothing else.
+    #[tactic(auto, using(crate::proofs::Keeping::bare_well_formed))]
     pub fn bare() -> Draft
         ensures { result.tables ≡ bare }
     {

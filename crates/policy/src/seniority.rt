@@ -23,7 +23,8 @@ impl Seniority {
     {
         let mut rows = alone();
         for role in 0..32u8 {
-            let below = gather(&rows, draft.tables.hierarchy.of(role));
+            let juniors = draft.tables.hierarchy.of(role);
+            let below = gather(&rows, juniors);
             rows = spread(&rows, role, below);
         }
         Seniority { rows }

@@ -17,6 +17,7 @@ pub struct Policies {
 }
 
 // The four, with the verdict that the written rules give on each.
+#[tactic(auto, using(crate::proofs::Policies::policies))]
 pub fn worked_policies() -> Policies
     ensures value { (result.sample ≡ worked.sample) × (result.unpaired ≡ worked.unpaired) × (result.selfpaired ≡ worked.selfpaired) × (result.cyclic ≡ worked.cyclic) }
     ensures law { Worked }

@@ -1,4 +1,4 @@
-use Rattle.std.proofs.Common.{ℕ, Some, None, Option, sym, refl}
+use Rattle.std.proofs.Common.{ℕ, Some, None, Option, sym}
 use Rattle.std.proofs.lemmas.Bool.{cond-true, cond-false}
 use Rattle.sets.specs.First.{first_of}
 use Rattle.sets.proofs.First.{none_more, none_end, found_here}
@@ -6,18 +6,6 @@ use Rattle.policy.specs.declared.verdict.Failure.{Failure}
 use Rattle.policy.specs.declared.verdict.Failure.TheVariants.{LostConflict}
 use Rattle.policy.specs.Search.{lost_conflict_at}
 use Rattle.policy.proofs.questions.Questions.find_lost_conflict.Goals as goal
-
-pub loop-senior-init : goal.loop-senior-init
-unfolding first_of
-loop-senior-init c = refl
-
-pub loop-junior-init : goal.loop-junior-init
-unfolding first_of
-loop-junior-init c = refl
-
-pub loop-other-init : goal.loop-other-init
-unfolding first_of
-loop-other-init c = refl
 
 pub loop-other-preserved : goal.loop-other-preserved
 loop-other-preserved c =

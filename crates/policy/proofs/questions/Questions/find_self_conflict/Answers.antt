@@ -1,7 +1,6 @@
 use Rattle.std.proofs.Common.{rules}
-use Rattle.policy.specs.Search.{self_conflict_at}
 use Rattle.policy.proofs.Finding.{first_from_find_map}
 use Rattle.policy.proofs.questions.Questions.find_self_conflict.Goals as goal
 
 pub returns : goal.returns
-returns c = first_from_find_map _ _ _ (self_conflict_at c.args.self.now.tables.now) _ c.find_map.ensures.runs (λ x a q k. search rules)
+returns c = first_from_find_map _ _ _ _ _ c.find_map.ensures.runs (λ x a q k. search rules)

@@ -1,7 +1,6 @@
 use Rattle.std.proofs.Common.{rules}
-use Rattle.policy.specs.Search.{lost_users_at}
 use Rattle.policy.proofs.Finding.{first_from_find_map}
 use Rattle.policy.proofs.questions.Questions.lost_users_from.Goals as goal
 
 pub returns : goal.returns
-returns c = first_from_find_map _ _ _ (lost_users_at c.args.self.now.seniority.now.rows c.args.self.now.tables.now c.args.senior) _ c.find_map.ensures.runs (λ x a q k. search rules)
+returns c = first_from_find_map _ _ _ _ _ c.find_map.ensures.runs (λ x a q k. search rules)
