@@ -1,11 +1,10 @@
 -- One run more, and the last line.
-use Rattle.std.proofs.Common.{◌≡◌, ℕ, suc, ◌+◌, ◌-◌, ◌<◌, ◌≤◌, cond, eqb, List, [], ◌∷◌, ◌++◌, length, take, drop, Ok, Err, codes, sym, refl, ap, ◌∙◌, subst, inl, inr, append_assoc, append-nil, arith}
+use Rattle.std.proofs.Common.{Bool, true, false, not, true≢false, ◌≡◌, ℕ, suc, ◌+◌, ◌-◌, ◌<◌, ◌≤◌, List, [], ◌∷◌, ◌++◌, length, take, drop, Ok, Err, codes, sym, refl, ap, ◌∙◌, subst, append_assoc, append-nil, arith}
 use Rattle.std.proofs.lemmas.List.{length-append, length-drop, take_all}
-use Rattle.std.proofs.lemmas.Bool.{cases_eq, eq-eqb, ne_eqb}
+use Rattle.std.specs.Result.{result_eq}
+use Rattle.records.specs.contracts.fault.FaultPartialEq.TheImpl as fault
+use Rattle.monitor.specs.contracts.run.PausePartialEq.TheImpl as pause
 use Rattle.records.specs.declared.event.Event.{Event}
-use Rattle.records.specs.declared.fault.Fault.{Fault}
-use Rattle.records.specs.declared.fault.Fault.TheVariants.{UnknownKind, CutBody, MisplacedSizes, OutOfRange, EqualPair, RepeatedLimit, NoByte}
-use Rattle.records.specs.Faults as faults
 use Rattle.policy.specs.declared.tables.Tables.{Tables}
 use Rattle.monitor.specs.declared.cells.Cells.{Cells}
 use Rattle.monitor.specs.declared.row.Row.{Row}
@@ -14,27 +13,24 @@ use Rattle.monitor.specs.declared.run.Pause.TheVariants.{NoByteLeft, NoRowLeft}
 use Rattle.monitor.specs.History.{replies, after}
 use Rattle.monitor.specs.Meaning.{Meaning}
 use Rattle.monitor.specs.Rows.{rows_of, outcome}
-use Rattle.monitor.specs.Scripts.{End, end_number, Script, first, script}
+use Rattle.monitor.specs.Scripts.{End, end_number, Script, ended, first, script}
 use Rattle.monitor.proofs.Filling.{first-first, first_none, length-rows, rows_append}
 use Rattle.monitor.proofs.Joining.{Similar, all_filled, similar_after, similar_same, similar_then, whole_goes_on, whole-settled, within}
 use Rattle.monitor.proofs.Lives.{after_append}
 use Rattle.report.specs.Texts.{row_text, end_text}
 use Rattle.report.specs.Whole.{rows_text, whole, events_text}
 
--- the number of a fault is neither that of a pass nor that of an end for want of a row
-pub fault_number : (f : Fault) → (0 < faults.number_of f) × (faults.number_of f < 10)
-fault_number (UnknownKind at) = (omega arith, omega arith)
-fault_number (CutBody at) = (omega arith, omega arith)
-fault_number (MisplacedSizes at) = (omega arith, omega arith)
-fault_number (OutOfRange at) = (omega arith, omega arith)
-fault_number (EqualPair at) = (omega arith, omega arith)
-fault_number (RepeatedLimit at) = (omega arith, omega arith)
-fault_number (NoByte at) = (omega arith, omega arith)
+-- what the comparison with the end for want of a row says
+abbrev other_end : End → Bool
+other_end e = not (result_eq (pause.eq-value).it (fault.eq-value).it e (Ok NoRowLeft))
 
-pub ten_is : (e : End) → end_number e ≡ 10 → e ≡ Ok NoRowLeft
-ten_is (Ok NoRowLeft) h = refl
-ten_is (Ok NoByteLeft) h = absurd (omega arith)
-ten_is (Err f) h = absurd (omega (arith, (fault_number f).1))
+pub wants : (e : End) {b : Bool} → b ≡ other_end e → b ≡ false → e ≡ Ok NoRowLeft
+wants (Ok NoRowLeft) eb ef = refl
+wants (Ok NoByteLeft) eb ef = absurd (true≢false (sym eb ∙ ef))
+wants (Err f) eb ef = absurd (true≢false (sym eb ∙ ef))
+
+pub wants_none : (e : End) {b : Bool} → b ≡ other_end e → b ≡ true → e ≡ Ok NoRowLeft → ⊥
+wants_none e eb et is = true≢false (sym et ∙ eb ∙ ap other_end is)
 
 -- the lines of rows after rows
 rows_text_append : (i : ℕ) (xs ys : List Row) → rows_text i (xs ++ ys) ≡ rows_text i xs ++ rows_text (i + length xs) ys
@@ -54,54 +50,53 @@ take_front {X} xs ys n e = ap (λ k. take k (xs ++ ys)) e ∙ go xs
 pub tail_is : (n : ℕ) (rest : List ℕ) → take (length rest - n) (drop n rest) ≡ drop n rest
 tail_is n rest = take_all (length rest - n) (drop n rest) (omega (arith, length-drop n rest))
 
--- the rest is shorter after a run that wants rows, and no other run follows one that does not
-pub shrinks : (n : ℕ) (rest : List ℕ) (o : Outcome) → o ≡ outcome (script n rest 0) → 1 ≤ n → (number number' : ℕ) → number ≡ 10 → number' ≡ end_number o.end
-    → length (take (length rest - o.bytes) (drop o.bytes rest)) + cond (eqb number' 10) 1 0 < length rest + cond (eqb number 10) 1 0
-shrinks n rest o eo l number number' ten en =
+-- the rest is shorter after a run that wants rows
+pub shrinks : (n : ℕ) (rest : List ℕ) (o : Outcome) → o ≡ outcome (script n rest 0) → 1 ≤ n → o.end ≡ Ok NoRowLeft
+    → length (take (length rest - o.bytes) (drop o.bytes rest)) < length rest
+shrinks n rest o eo l e =
     let s = script n rest 0 in
     let bytes : o.bytes ≡ s.bytes = ap (λ x. x.bytes) eo in
     let left : length (take (length rest - o.bytes) (drop o.bytes rest)) ≡ length rest - o.bytes = ap length (tail_is o.bytes rest) ∙ length-drop o.bytes rest in
-    let again : ◌≡◌ {A = ℕ} (cond (eqb number 10) 1 0) 1 = ap (λ b. cond b 1 0) (eq-eqb number 10 ten) in
-    elim (cases_eq number' 10) [
-      | inl e ↦
-          let one : ◌≡◌ {A = ℕ} (cond (eqb number' 10) 1 0) 1 = ap (λ b. cond b 1 0) (eq-eqb number' 10 e) in
-          let full = all_filled n rest 0 (sym (ap (λ (x : Outcome). x.end) eo) ∙ ten_is o.end (sym en ∙ e)) in
-          omega (arith, (within n rest 0).each, (within n rest 0).taken, full)
-      | inr ne ↦ let none : ◌≡◌ {A = ℕ} (cond (eqb number' 10) 1 0) 0 = ap (λ b. cond b 1 0) (ne_eqb number' 10 ne) in omega arith
-    ]
+    let full = all_filled n rest 0 (sym (ap (λ (x : Outcome). x.end) eo) ∙ e) in omega (arith, (within n rest 0).each, (within n rest 0).taken, full)
+
+-- a script is its events and its end
+closed : (s : Script) → Similar s (first s.events s.bytes (ended s.end))
+closed s = record { events = sym (append-nil s.events); bytes = omega arith; number = refl }
 
 module _ (ms : List Meaning) (t : Tables) (c₀ : Cells) (bytes : List ℕ) (text₀ : List ℕ) where
-  -- the runs so far filled so many rows and took so many bytes, and the last ended with this number
-  pub record Rolling (count taken number : ℕ) (rest text : List ℕ) (c : Cells) : Type 0 where
+  -- the runs so far filled so many rows and left this rest; what is still to come is the script
+  pub record Rolling (count : ℕ) (rest text : List ℕ) (c : Cells) (next : Script) : Type 0 where
     pub events : List Event
+    pub taken : ℕ
     pub counted : count ≡ length events
     pub inside : taken + length rest ≡ length bytes
     pub few : count ≤ taken
     pub written : text ≡ text₀ ++ rows_text 0 (rows_of events (replies ms t c₀ events))
     pub reached : c ≡ after ms t c₀ events
-    pub ahead : number ≡ 10 → Similar (whole bytes) (first events taken (whole rest))
-    pub over : (number ≡ 10 → ⊥) → ((whole bytes).events ≡ events) × ((whole bytes).bytes ≡ taken) × (end_number (whole bytes).end ≡ number)
+    pub ahead : Similar (whole bytes) (first events taken next)
 
-  pub unrolled : Rolling 0 0 10 bytes text₀ c₀
+  pub unrolled : Rolling 0 bytes text₀ c₀ (whole bytes)
   unrolled = record {
     events = [];
+    taken = 0;
     counted = refl;
     inside = omega arith;
     few = omega arith;
     written = sym (append-nil text₀);
     reached = refl;
-    ahead = λ ten. similar_same (sym (first_none (whole bytes)));
-    over = λ other. absurd (other refl);
+    ahead = similar_same (sym (first_none (whole bytes)));
   }
 
-  -- a run with n rows over the rest
-  pub rolled : (n : ℕ) {count taken number : ℕ} {rest text : List ℕ} {c : Cells} → Rolling count taken number rest text c → number ≡ 10
-      → (old new : List Row) → new ≡ rows_of (script n rest 0).events (replies ms t c (script n rest 0).events) ++ old
+  -- a run with n rows over the rest, and what comes after it
+  rolled : (n : ℕ) {count : ℕ} {rest text : List ℕ} {c : Cells} → Rolling count rest text c (whole rest) → (old new : List Row)
+      → new ≡ rows_of (script n rest 0).events (replies ms t c (script n rest 0).events) ++ old
       → (text' : List ℕ) → text' ≡ text ++ rows_text count (take (length (script n rest 0).events) new)
       → (c' : Cells) → c' ≡ after ms t c (script n rest 0).events
-      → Rolling (count + length (script n rest 0).events) (taken + (script n rest 0).bytes) (end_number (script n rest 0).end) (drop (script n rest 0).bytes rest) text' c'
-  rolled n {count} {taken} {number} {rest} {text} {c} roll ten old new en text' et c' ec = record {
+      → (next : Script) → Similar (whole rest) (first (script n rest 0).events (script n rest 0).bytes next)
+      → Rolling (count + length (script n rest 0).events) (drop (script n rest 0).bytes rest) text' c' next
+  rolled n {count} {rest} {text} {c} roll old new en text' et c' ec next like = record {
     events = roll.events ++ s.events;
+    taken = roll.taken + s.bytes;
     counted = ap (λ k. k + length s.events) roll.counted ∙ sym (length-append roll.events s.events);
     inside = omega (arith, roll.inside, length-drop s.bytes rest, (within n rest 0).taken);
     few = omega (arith, roll.few, (within n rest 0).each);
@@ -113,12 +108,8 @@ module _ (ms : List Meaning) (t : Tables) (c₀ : Cells) (bytes : List ℕ) (tex
         ∙ ap (λ rs. rows_text 0 (before ++ rs)) (ap (λ k. rows_of s.events (replies ms t k s.events)) roll.reached)
         ∙ ap (rows_text 0) (sym (rows_append ms t c₀ roll.events s.events)));
     reached = ec ∙ ap (λ k. after ms t k s.events) roll.reached ∙ sym (after_append ms t c₀ roll.events s.events);
-    ahead = λ again. similar_then (roll.ahead ten)
-        (similar_then (similar_after roll.events taken (whole_goes_on n rest (ten_is s.end again)))
-        (similar_same (first-first roll.events s.events taken s.bytes (whole (drop s.bytes rest)))));
-    over = λ other.
-        let all = similar_then (roll.ahead ten) (similar_after roll.events taken (similar_same (whole-settled n rest (λ e. other (ap end_number e))))) in
-        (all.events, all.bytes, all.number);
+    ahead = similar_then roll.ahead
+        (similar_then (similar_after roll.events roll.taken like) (similar_same (first-first roll.events s.events roll.taken s.bytes next)));
   }
     where
       s : Script
@@ -130,28 +121,48 @@ module _ (ms : List Meaning) (t : Tables) (c₀ : Cells) (bytes : List ℕ) (tex
       later : List Row
       later = rows_of s.events (replies ms t c s.events)
 
-  -- the same as the loop has it
-  pub rolled_run : (n : ℕ) {count taken number : ℕ} {rest text : List ℕ} {c : Cells} → Rolling count taken number rest text c → number ≡ 10
-      → (o : Outcome) → o ≡ outcome (script n rest 0) → (old new : List Row)
-      → new ≡ rows_of (script n rest 0).events (replies ms t c (script n rest 0).events) ++ old
-      → (text' : List ℕ) → text' ≡ text ++ rows_text count (take o.rows new) → (c' : Cells) → c' ≡ after ms t c (script n rest 0).events
-      → (number' : ℕ) → number' ≡ end_number o.end
-      → Rolling (count + o.rows) (taken + o.bytes) number' (take (length rest - o.bytes) (drop o.bytes rest)) text' c'
-  rolled_run n {count} {taken} {number} {rest} {text} {c} roll ten o eo old new en text' et c' ec number' em =
-      subst (λ k. Rolling (count + o.rows) (taken + o.bytes) k (take (length rest - o.bytes) (drop o.bytes rest)) text' c') (sym em)
-      (subst (λ left. Rolling (count + o.rows) (taken + o.bytes) (end_number o.end) left text' c') (sym (tail_is o.bytes rest))
-      (subst (λ (x : Outcome). text' ≡ text ++ rows_text count (take x.rows new) → Rolling (count + x.rows) (taken + x.bytes) (end_number x.end) (drop x.bytes rest) text' c')
-      (sym eo) (λ et'. rolled n roll ten old new en text' et' c' ec) et))
-
   -- the last line
-  pub unrolled_whole : {count taken number : ℕ} {rest text : List ℕ} {c : Cells} → Rolling count taken number rest text c → (number ≡ 10 → ⊥)
-      → (text' : List ℕ) → text' ≡ (text ++ end_text count taken number) ++ codes "\n" → text' ≡ text₀ ++ events_text ms t c₀ bytes
-  unrolled_whole {count} {taken} {number} {rest} {text} {c} roll other text' e =
-      let is = roll.over other in
-      let es = sym is.0 in
-      e ∙ append_assoc text (end_text count taken number) (codes "\n") ∙ ap (λ x. x ++ (end_text count taken number ++ codes "\n")) roll.written
-      ∙ append_assoc text₀ (rows_text 0 (rows_of roll.events (replies ms t c₀ roll.events))) (end_text count taken number ++ codes "\n")
-      ∙ ap (λ k. text₀ ++ (rows_text 0 (rows_of roll.events (replies ms t c₀ roll.events)) ++ (end_text k taken number ++ codes "\n"))) roll.counted
-      ∙ ap (λ xs. text₀ ++ (rows_text 0 (rows_of xs (replies ms t c₀ xs)) ++ (end_text (length xs) taken number ++ codes "\n"))) es
-      ∙ ap (λ k. text₀ ++ (rows_text 0 (rows_of (whole bytes).events (replies ms t c₀ (whole bytes).events)) ++ (end_text (length (whole bytes).events) k number ++ codes "\n"))) (sym is.1)
-      ∙ ap (λ k. text₀ ++ (rows_text 0 (rows_of (whole bytes).events (replies ms t c₀ (whole bytes).events)) ++ (end_text (length (whole bytes).events) (whole bytes).bytes k ++ codes "\n"))) (sym is.2)
+  told : {count : ℕ} {rest text : List ℕ} {c : Cells} {end : End} → Rolling count rest text c (ended end) → (why : End) → end_number why ≡ end_number end
+      → (taken : ℕ) → taken ≡ length bytes - length rest → (text' : List ℕ) → text' ≡ text ++ (end_text count taken (end_number why) ++ codes "\n")
+      → text' ≡ text₀ ++ events_text ms t c₀ bytes
+  told {count} {rest} {text} {c} {end} roll why ew taken et text' e =
+      let lines = λ (es : List Event) (k number : ℕ). text₀ ++ (rows_text 0 (rows_of es (replies ms t c₀ es)) ++ (end_text (length es) k number ++ codes "\n")) in
+      e ∙ ap (λ x. x ++ (end_text count taken (end_number why) ++ codes "\n")) roll.written
+      ∙ append_assoc text₀ (rows_text 0 (rows_of roll.events (replies ms t c₀ roll.events))) (end_text count taken (end_number why) ++ codes "\n")
+      ∙ ap (λ k. text₀ ++ (rows_text 0 (rows_of roll.events (replies ms t c₀ roll.events)) ++ (end_text k taken (end_number why) ++ codes "\n"))) roll.counted
+      ∙ ap (λ es. lines es taken (end_number why)) (sym (append-nil roll.events) ∙ sym roll.ahead.events)
+      ∙ ap (λ k. lines (whole bytes).events k (end_number why)) {x = taken} {y = (whole bytes).bytes} (omega (arith, et, roll.inside, roll.ahead.bytes))
+      ∙ ap (lines (whole bytes).events (whole bytes).bytes) (ew ∙ sym roll.ahead.number)
+
+  -- the same as the loop has it
+  module _ (n : ℕ) {count : ℕ} {rest text : List ℕ} {c : Cells} (roll : Rolling count rest text c (whole rest))
+      (o : Outcome) (eo : o ≡ outcome (script n rest 0)) (old new : List Row)
+      (en : new ≡ rows_of (script n rest 0).events (replies ms t c (script n rest 0).events) ++ old)
+      (text' : List ℕ) (et : text' ≡ text ++ rows_text count (take o.rows new)) (c' : Cells) (ec : c' ≡ after ms t c (script n rest 0).events) where
+    left : List ℕ
+    left = take (length rest - o.bytes) (drop o.bytes rest)
+
+    run_before : (next : Script) → Similar (whole rest) (first (script n rest 0).events (script n rest 0).bytes next)
+        → Rolling (count + o.rows) (take (length rest - o.bytes) (drop o.bytes rest)) text' c' next
+    run_before next like =
+        subst (λ r. Rolling (count + o.rows) r text' c' next) (sym (tail_is o.bytes rest))
+        (subst (λ (x : Outcome). text' ≡ text ++ rows_text count (take x.rows new) → Rolling (count + x.rows) (drop x.bytes rest) text' c' next)
+        (sym eo) (λ et'. rolled n roll old new en text' et' c' ec next like) et)
+
+    -- it wants rows
+    pub rolls_on : o.end ≡ Ok NoRowLeft
+        → Rolling (count + o.rows) (take (length rest - o.bytes) (drop o.bytes rest)) text' c' (whole (take (length rest - o.bytes) (drop o.bytes rest)))
+    rolls_on e =
+        run_before (whole (take (length rest - o.bytes) (drop o.bytes rest)))
+        (subst (λ r. Similar (whole rest) (first (script n rest 0).events (script n rest 0).bytes (whole r)))
+        (ap (λ (x : Outcome). drop x.bytes rest) (sym eo) ∙ sym (tail_is o.bytes rest))
+        (whole_goes_on n rest (sym (ap (λ (x : Outcome). x.end) eo) ∙ e)))
+
+    -- it ends for another reason, and the last line is written
+    pub rolls_out : (o.end ≡ Ok NoRowLeft → ⊥) → (taken : ℕ) → taken ≡ length bytes - length (take (length rest - o.bytes) (drop o.bytes rest))
+        → (text'' : List ℕ) → text'' ≡ text' ++ (end_text (count + o.rows) taken (end_number o.end) ++ codes "\n")
+        → text'' ≡ text₀ ++ events_text ms t c₀ bytes
+    rolls_out other taken et text'' e'' =
+        let settled = λ (e : (script n rest 0).end ≡ Ok NoRowLeft). other (ap (λ (x : Outcome). x.end) eo ∙ e) in
+        let like = similar_then (similar_same (whole-settled n rest settled)) (closed (script n rest 0)) in
+        told (run_before (ended (script n rest 0).end) like) o.end (ap (λ (x : Outcome). end_number x.end) eo) taken et text'' e''

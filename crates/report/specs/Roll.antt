@@ -1,12 +1,13 @@
 -- The whole roll of an input, as text. Assumes nothing.
-use Rattle.std.specs.Prelude.{ℕ, cond, List, ◌++◌, length, codes, nat_lt}
+use Rattle.std.specs.Prelude.{cond, List, ℕ, ◌++◌, length, codes, nat_lt, Result}
+use Rattle.records.specs.declared.fault.Fault.{Fault}
 use Rattle.policy.specs.Reading.{reading}
-use Rattle.report.specs.declared.line.PolicyLine.{PolicyLine}
+use Rattle.report.specs.declared.judging.Judged.{Judged}
 use Rattle.report.specs.Judging.{line_of}
-use Rattle.report.specs.Texts.{policy_text}
+use Rattle.report.specs.Texts.{judged_text}
 
-abbrev pub line_text : PolicyLine → List ℕ
-line_text l = policy_text l.number l.figure l.names ++ codes "\n"
+abbrev pub line_text : Result Judged Fault → List ℕ
+line_text judged = judged_text judged ++ codes "\n"
 
 -- an input of more than 65,536 bytes is not read
 abbrev pub roll_text : List ℕ → List ℕ

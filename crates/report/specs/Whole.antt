@@ -2,12 +2,11 @@
 --   rows_text         a line for each row, the index counted on
 --   events_text       the lines of the events in a list of bytes, and the last line
 --   whole_roll_text   the whole roll of an input: the policy's line, and the events' lines where it passes
-use Rattle.std.specs.Prelude.{ℕ, ◌+◌, cond, List, [], ◌∷◌, ◌++◌, length, drop, Ok, Err, codes, Result, ◌==◌, nat_lt}
+use Rattle.std.specs.Prelude.{ℕ, ◌+◌, cond, List, [], ◌∷◌, ◌++◌, length, drop, Ok, Err, codes, Result, nat_lt}
 use Rattle.records.specs.declared.fault.Fault.{Fault}
 use Rattle.policy.specs.declared.tables.Tables.{Tables}
 use Rattle.policy.specs.Reading.{reading}
 use Rattle.policy.specs.Search.{verdict}
-use Rattle.policy.specs.Verdicts.{number_of}
 use Rattle.monitor.specs.Answers.{Answer}
 use Rattle.monitor.specs.declared.cells.Cells.{Cells}
 use Rattle.monitor.specs.declared.row.Row.{Row}
@@ -16,7 +15,7 @@ use Rattle.monitor.specs.History.{replies}
 use Rattle.monitor.specs.Meaning.{Meaning}
 use Rattle.monitor.specs.Rows.{rows_of}
 use Rattle.monitor.specs.Scripts.{Script, end_number, script}
-use Rattle.report.specs.Judging.{line_of}
+use Rattle.report.specs.Judging.{line_of, where_passed}
 use Rattle.report.specs.Roll.{line_text}
 use Rattle.report.specs.Texts.{row_text, end_text}
 
@@ -38,7 +37,7 @@ events_text ms t c bytes = script_text (whole bytes) (replies ms t c (whole byte
 -- the events follow a policy that passes, and are decided by the rules of a pile from the new state
 abbrev pub told : List Meaning → Result (Tables × ℕ) Fault → List ℕ → List ℕ
 told ms (Err f) bytes = []
-told ms (Ok p) bytes = cond (number_of (verdict p.0) == 0) (events_text ms p.0 blank (drop p.1 bytes)) []
+told ms (Ok p) bytes = where_passed (verdict p.0) (events_text ms p.0 blank (drop p.1 bytes)) []
 
 -- an input of more than 65,536 bytes is not read
 abbrev pub whole_roll_text : List Meaning → List ℕ → List ℕ

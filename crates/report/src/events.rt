@@ -6,7 +6,7 @@ use crate::line::{EndLine, RowLine};
 use monitor::decide::Monitor;
 use monitor::row::Row;
 use monitor::rule::Rule;
-use monitor::run::run;
+use monitor::run::{Outcome, Pause, run};
 use sets::RoleSet;
 use std::fmt;
 
@@ -26,13 +26,12 @@ fn write_rows(text: &mut String, index: usize, rows: &[Row]) -> fmt::Result
     requires { index + length rows.now ≤ 65536 }
     ensures { OnOk result (string_bytes text.new ≡ string_bytes text.old ++ rows_text index rows.now) }
 {
-    for i in 0..rows.len() {
+    for (i, row) in rows.iter().enumerate() {
         let line = RowLine {
             index: index + i,
-            row: rows[i],
+            row: *row,
         };
-        text.write(line)?;
-        text.write("\n")?;
+        writeln!(text, "{line}")?;
     }
     Ok(())
 }
@@ -48,22 +47,20 @@ pub(crate) fn write_events<P: Rule>(
 {
     let mut rows = [NO_ROW; ROWS];
     let mut rest = bytes;
-    let mut total = EndLine {
-        rows: 0,
-        bytes: 0,
-        number: 10,
-    };
-    while total.number == 10 {
+    let mut count = 0;
+    loop {
         let outcome = run(monitor, rest, &mut rows);
-        write_rows(text, total.rows, &rows[..outcome.rows])?;
-        total = EndLine {
-            rows: total.rows + outcome.rows,
-            bytes: total.bytes + outcome.bytes,
-            number: outcome.number(),
-        };
+        write_rows(text, count, &rows[..outcome.rows])?;
+        count += outcome.rows;
         rest = &rest[outcome.bytes..];
+        if outcome.end != Ok(Pause::NoRowLeft) {
+            let total = Outcome {
+                rows: count,
+                bytes: bytes.len() - rest.len(),
+                end: outcome.end,
+            };
+            writeln!(text, "{}", EndLine { total })?;
+            return Ok(());
+        }
     }
-    text.write(total)?;
-    text.write("\n")?;
-    Ok(())
 }

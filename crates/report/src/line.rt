@@ -1,24 +1,32 @@
 ghost use Rattle.std.specs.Prelude.{Some};
-ghost use Rattle.report.specs.Texts.{policy_text, row_text, end_text};
+ghost use Rattle.report.specs.Texts.{judged_text, row_text, end_text};
+ghost use Rattle.monitor.specs.Scripts.{end_number};
 
+use crate::judging::Judged;
 use monitor::row::Row;
+use monitor::run::Outcome;
+use policy::verdict;
+use records::fault::Fault;
 use std::fmt;
 
 // What the first line of the roll says: the number of the fault or verdict, its place or else the bytes read, four names.
 #[derive(Clone, Copy)]
 pub struct PolicyLine {
-    pub number: u8,
-    pub figure: usize,
-    pub names: [u8; 4],
+    pub judged: Result<Judged, Fault>,
 }
 
 impl fmt::Display for PolicyLine {
-    ghost output = { λ x. Some (policy_text x.number x.figure x.names) };
+    ghost output = { λ x. Some (judged_text x.judged) };
 
     fn fmt<W: fmt::Write>(&self, f: &mut fmt::Formatter<W>) -> fmt::Result {
-        let number = self.number;
-        let figure = self.figure;
-        let [a, b, c, d] = self.names;
+        let (number, figure, [a, b, c, d]) = match self.judged {
+            Ok(Judged { bytes, verdict }) => (
+                verdict::number(verdict),
+                bytes,
+                verdict::names(verdict),
+            ),
+            Err(fault) => (fault.number(), fault.place(), [0, 0, 0, 0]),
+        };
         write!(f, "policy {number} {figure} {a} {b} {c} {d}")
     }
 }
@@ -50,18 +58,15 @@ impl fmt::Display for RowLine {
 // The last line of the roll: how many rows, the bytes of their events, and the number of the end.
 #[derive(Clone, Copy)]
 pub struct EndLine {
-    pub rows: usize,
-    pub bytes: usize,
-    pub number: u8,
+    pub total: Outcome,
 }
 
 impl fmt::Display for EndLine {
-    ghost output = { λ x. Some (end_text x.rows x.bytes x.number) };
+    ghost output = { λ x. Some (end_text x.total.rows x.total.bytes (end_number x.total.end)) };
 
     fn fmt<W: fmt::Write>(&self, f: &mut fmt::Formatter<W>) -> fmt::Result {
-        let rows = self.rows;
-        let bytes = self.bytes;
-        let number = self.number;
+        let Outcome { rows, bytes, .. } = self.total;
+        let number = self.total.number();
         write!(f, "end {rows} {bytes} {number}")
     }
 }

@@ -2,6 +2,7 @@ ghost use Rattle.std.specs.Prelude.{◌≡◌, IfOk, string_bytes};
 ghost use Rattle.report.specs.Roll.{roll_text};
 
 use crate::judging::judge;
+use crate::line::PolicyLine;
 use policy::checked::Checked;
 use std::alloc::{AllocError, Global};
 
@@ -16,6 +17,8 @@ pub fn roll(heap: Global, bytes: &[u8]) -> Result<String, AllocError>
         return String::from_str(heap, "input 9\n");
     }
     let mut held = Checked::bare();
-    let line = judge(&mut held, bytes);
+    let line = PolicyLine {
+        judged: judge(&mut held, bytes),
+    };
     format!(in heap; "{line}\n")
 }

@@ -6,6 +6,7 @@ ghost use Rattle.report.specs.Whole.{whole_roll_text};
 
 use crate::events::write_events;
 use crate::judging::judge;
+use crate::line::PolicyLine;
 use crate::roll::MOST;
 use families::house::house;
 use monitor::decide::Monitor;
@@ -25,19 +26,20 @@ pub fn whole_roll_by<P: Rule + Drop>(
 {
     let mut text = String::new(heap);
     if bytes.len() > MOST {
-        text.write("input 9\n")?;
+        writeln!(text, "input 9")?;
         return Ok(text);
     }
     let mut held = Checked::bare();
-    let line = judge(&mut held, bytes);
-    text.write(line)?;
-    text.write("\n")?;
-    if line.number != 0 {
+    let judged = judge(&mut held, bytes);
+    writeln!(text, "{}", PolicyLine { judged })?;
+    let Ok(policy) = judged else {
+        return Ok(text);
+    };
+    if policy.verdict.is_err() {
         return Ok(text);
     }
-    let count = line.figure;
     let mut monitor = Monitor::begin(held, pile);
-    write_events(&mut text, &mut monitor, &bytes[count..])?;
+    write_events(&mut text, &mut monitor, &bytes[policy.bytes..])?;
     Ok(text)
 }
 

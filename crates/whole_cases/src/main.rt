@@ -6,9 +6,8 @@ use families::house::{House, house};
 use monitor::own::Own;
 use monitor::pair::Pair;
 use own::once::OncePerUser;
+use printing::cases::print_cases;
 use report::whole::{whole_roll, whole_roll_by};
-use std::io::{BufWriter, Write};
-use std::{env, fs};
 
 // Role 1 is never active in two sessions of one user, and then the house pile.
 fn own_pile() -> Pair<Own<OncePerUser>, House> {
@@ -20,27 +19,13 @@ fn own_pile() -> Pair<Own<OncePerUser>, House> {
     }
 }
 
-fn print_case(rt: &HostRuntime, out: &mut impl Write, name: &str) -> anyhow::Result<()> {
-    let bytes = fs::read(rt, name)?;
-    let text = if name.starts_with("own-") {
-        whole_roll_by(rt.alloc(), bytes.as_slice(), own_pile())?
-    } else {
-        whole_roll(rt.alloc(), bytes.as_slice())?
-    };
-    writeln!(out, "{name}")?;
-    out.write_all(text.as_bytes())?;
-    Ok(())
-}
-
-fn print_cases(rt: &HostRuntime) -> anyhow::Result<()> {
-    let mut out = BufWriter::new(rt.alloc(), rt.stdout())?;
-    for name in env::args(rt)?.skip(1) {
-        print_case(rt, &mut out, name.as_str())?;
-    }
-    out.flush()?;
-    Ok(())
-}
-
 fn main(rt: HostRuntime) -> anyhow::Result<()> {
-    print_cases(&rt)
+    print_cases(&rt, |name, bytes| {
+        let text = if name.starts_with("own-") {
+            whole_roll_by(rt.alloc(), bytes, own_pile())?
+        } else {
+            whole_roll(rt.alloc(), bytes)?
+        };
+        Ok(text)
+    })
 }

@@ -1,22 +1,11 @@
 // Prints the whole roll of the input on standard input.
 #![tactic(auto)]
 
+use printing::input::print_roll;
 use report::whole::whole_roll;
-use std::io::{Read, Write};
-
-// One byte more than an input may have is enough to refuse it.
-const ENOUGH: u64 = 65_537;
-
-fn print_roll(rt: &HostRuntime) -> anyhow::Result<()> {
-    let mut bytes = Vec::new(rt.alloc());
-    rt.stdin().take(ENOUGH).read_to_end(&mut bytes)?;
-    let text = whole_roll(rt.alloc(), bytes.as_slice())?;
-    let mut out = rt.stdout();
-    out.write_all(text.as_bytes())?;
-    out.flush()?;
-    Ok(())
-}
 
 fn main(rt: HostRuntime) -> anyhow::Result<()> {
-    print_roll(&rt)
+    print_roll(rt.alloc(), rt.stdin(), &mut rt.stdout(), |bytes| {
+        Ok(whole_roll(rt.alloc(), bytes)?)
+    })
 }
