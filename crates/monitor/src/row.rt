@@ -7,7 +7,7 @@ use records::event::Event;
 use sets::RoleSet;
 
 // The event's kind, and the number, subject, place and roles of its answer.
-#[derive(Clone, Copy)]
+#[derive(Clone, Copy, Default)]
 pub struct Row {
     pub kind: u8,
     pub number: u8,

@@ -7,19 +7,10 @@ use monitor::decide::Monitor;
 use monitor::row::Row;
 use monitor::rule::Rule;
 use monitor::run::{Outcome, Pause, run};
-use sets::RoleSet;
 use std::fmt;
 
 // How many rows a run is given.
 const ROWS: usize = 1024;
-
-const NO_ROW: Row = Row {
-    kind: 0,
-    number: 0,
-    subject: 0,
-    place: 0,
-    roles: RoleSet { bits: 0 },
-};
 
 // Writes a line for each row, counting on from the index.
 fn write_rows(text: &mut String, index: usize, rows: &[Row]) -> fmt::Result
@@ -45,7 +36,7 @@ pub(crate) fn write_events<P: Rule>(
     requires { length bytes.now ≤ 65536 }
     ensures { OnOk result (string_bytes text.new ≡ string_bytes text.old ++ events_text (P.rules monitor.old.pile) monitor.old.ledger.policy.draft.tables monitor.old.ledger.state.cells bytes.now) }
 {
-    let mut rows = [NO_ROW; ROWS];
+    let mut rows = [Row::default(); ROWS];
     let mut rest = bytes;
     let mut count = 0;
     loop {

@@ -14,133 +14,118 @@ use records::event::Event;
 use report::line::RowLine;
 use sets::RoleSet;
 
-// The rows of the shift, as many as it can have.
-#[derive(Clone, Copy)]
-struct Log {
-    rows: [Row; 16],
-    count: usize,
+// The most rows that the shift can have.
+const MOST: usize = 16;
+
+// A monitor, and a row of each event that it was asked.
+#[derive(Drop)]
+struct Desk {
+    monitor: Monitor<House>,
+    rows: Vec<Row>,
 }
 
-impl Log {
+impl Desk {
     fn note(&mut self, event: Event, answer: Answer) {
-        if self.count < self.rows.len() {
-            self.rows[self.count] = Row::of(event, answer);
-            self.count += 1;
+        if self.rows.len() < self.rows.capacity() {
+            self.rows.push_reserved(Row::of(event, answer));
         }
     }
-}
 
-fn granted() -> Answer {
-    Ok(RoleSet::empty())
-}
+    // Decides one event that needs no ticket.
+    fn ask(&mut self, event: Event) {
+        let answer = self.monitor.decide(event);
+        self.note(event, answer);
+    }
 
-// Decides one event that needs no ticket.
-fn ask(monitor: &mut Monitor<House>, log: &mut Log, event: Event) {
-    let answer = monitor.decide(event);
-    log.note(event, answer);
-}
-
-// Opens a session; only a grant gives a ticket.
-fn open(monitor: &mut Monitor<House>, log: &mut Log, session: u8, user: u8) -> Option<Ticket> {
-    let event = Event::Open { session, user };
-    match monitor.open(session, user) {
-        Ok(ticket) => {
-            log.note(event, granted());
-            Some(ticket)
-        }
-        Err(refusal) => {
-            log.note(event, Err(refusal));
-            None
+    // Opens a session; only a grant gives a ticket.
+    fn open(&mut self, session: u8, user: u8) -> Option<Ticket> {
+        let event = Event::Open { session, user };
+        match self.monitor.open(session, user) {
+            Ok(ticket) => {
+                self.note(event, Ok(RoleSet::empty()));
+                Some(ticket)
+            }
+            Err(refusal) => {
+                self.note(event, Err(refusal));
+                None
+            }
         }
     }
-}
 
-// Closes the session, or leaves it open where that is refused.
-fn close_or_leave(monitor: &mut Monitor<House>, log: &mut Log, ticket: Ticket) {
-    let event = Event::Close {
-        session: ticket.session(),
-    };
-    match monitor.close(ticket) {
-        Ok(ended) => log.note(event, Ok(ended)),
-        Err((ticket, refusal)) => {
-            log.note(event, Err(refusal));
+    // Closes the session; a refusal hands the ticket back.
+    fn close(&mut self, ticket: Ticket) -> Result<(), Ticket> {
+        let event = Event::Close {
+            session: ticket.session(),
+        };
+        match self.monitor.close(ticket) {
+            Ok(ended) => {
+                self.note(event, Ok(ended));
+                Ok(())
+            }
+            Err((ticket, refusal)) => {
+                self.note(event, Err(refusal));
+                Err(ticket)
+            }
+        }
+    }
+
+    // Closes the session, or leaves it open where that is refused.
+    fn close_or_leave(&mut self, ticket: Ticket) {
+        if let Err(ticket) = self.close(ticket) {
             let _ = ticket.leave();
         }
     }
-}
 
-// Closes the scanning session. Where a role of the checking session leans on it, the ticket comes back, and checking ends first.
-fn close_both(monitor: &mut Monitor<House>, log: &mut Log, scanning: Ticket, checking: Ticket) {
-    let event = Event::Close {
-        session: scanning.session(),
-    };
-    match monitor.close(scanning) {
-        Ok(ended) => {
-            log.note(event, Ok(ended));
-            close_or_leave(monitor, log, checking);
-        }
-        Err((scanning, refusal)) => {
-            log.note(event, Err(refusal));
-            close_or_leave(monitor, log, checking);
-            close_or_leave(monitor, log, scanning);
+    // Closes the scanning session. Where a role of the checking session leans on it, the ticket comes back, and checking ends first.
+    fn close_both(&mut self, scanning: Ticket, checking: Ticket) {
+        let closed = self.close(scanning);
+        self.close_or_leave(checking);
+        if let Err(scanning) = closed {
+            self.close_or_leave(scanning);
         }
     }
-}
 
-// Moves to another session: the new ticket is kept, the old one spent. Where the opening is refused the old one is kept.
-fn move_to(
-    monitor: &mut Monitor<House>,
-    log: &mut Log,
-    old: Ticket,
-    session: u8,
-    user: u8,
-) -> Ticket {
-    match open(monitor, log, session, user) {
-        Some(new) => {
-            close_or_leave(monitor, log, old);
-            new
+    // Moves to another session: the new ticket is kept, the old one spent. Where the opening is refused the old one is kept.
+    fn move_to(&mut self, old: Ticket, session: u8, user: u8) -> Ticket {
+        match self.open(session, user) {
+            Some(new) => {
+                self.close_or_leave(old);
+                new
+            }
+            None => old,
         }
-        None => old,
     }
-}
 
-// User 0 scans by role 1 in session 0; user 1 checks by role 3, which depends on 1, in session 1.
-fn work(monitor: &mut Monitor<House>, log: &mut Log) {
-    ask(monitor, log, Event::Assign { user: 0, role: 1 });
-    ask(monitor, log, Event::Assign { user: 1, role: 3 });
-    ask(monitor, log, Event::Enable { role: 1 });
-    ask(monitor, log, Event::Enable { role: 3 });
-    let Some(scanning) = open(monitor, log, 0, 0) else {
-        return;
-    };
-    let Some(checking) = open(monitor, log, 1, 1) else {
-        let _ = scanning.leave();
-        return;
-    };
-    ask(
-        monitor,
-        log,
-        Event::Activate {
+    // User 0 scans by role 1 in session 0; user 1 checks by role 3, which depends on 1, in session 1.
+    fn work(&mut self) {
+        self.ask(Event::Assign { user: 0, role: 1 });
+        self.ask(Event::Assign { user: 1, role: 3 });
+        self.ask(Event::Enable { role: 1 });
+        self.ask(Event::Enable { role: 3 });
+        let Some(scanning) = self.open(0, 0) else {
+            return;
+        };
+        let Some(checking) = self.open(1, 1) else {
+            let _ = scanning.leave();
+            return;
+        };
+        self.ask(Event::Activate {
             session: 0,
             role: 1,
-        },
-    );
-    ask(
-        monitor,
-        log,
-        Event::Activate {
+        });
+        self.ask(Event::Activate {
             session: 1,
             role: 3,
-        },
-    );
-    close_both(monitor, log, scanning, checking);
-    if let Some(evening) = open(monitor, log, 0, 0) {
-        let night = move_to(monitor, log, evening, 1, 0);
-        let _ = night.leave();
-    }
-    // the session that was left is still open, so it can't be opened again
-    if let Some(again) = open(monitor, log, 1, 1) {
-        close_or_leave(monitor, log, again);
+        });
+        self.close_both(scanning, checking);
+        if let Some(evening) = self.open(0, 0) {
+            let night = self.move_to(evening, 1, 0);
+            let _ = night.leave();
+        }
+        // the session that was left is still open, so it can't be opened again
+        if let Some(again) = self.open(1, 1) {
+            self.close_or_leave(again);
+        }
     }
 }
 
@@ -150,18 +135,13 @@ fn print_shift(rt: &HostRuntime) -> anyhow::Result<()> {
     let policies = worked_policies();
     let _ = draft.read(&policies.sample);
     let _ = checked.check(&draft);
-    let mut monitor = begin(checked);
-    let blank = Row::of(Event::Enable { role: 0 }, granted());
-    let mut log = Log {
-        rows: [blank; 16],
-        count: 0,
+    let mut desk = Desk {
+        monitor: begin(checked),
+        rows: Vec::with_capacity(rt.alloc(), MOST)?,
     };
-    work(&mut monitor, &mut log);
-    for index in 0..log.count.min(16) {
-        let line = RowLine {
-            index,
-            row: log.rows[index],
-        };
+    desk.work();
+    for (index, row) in desk.rows.iter().enumerate() {
+        let line = RowLine { index, row: *row };
         println!(rt; "{line}")?;
     }
     Ok(())
