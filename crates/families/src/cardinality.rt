@@ -181,7 +181,7 @@ impl Rule for Cardinality {
 }
 
 impl Cardinality {
-    // Kept: three families have such a call; each carries a theorem of its own, and a trait of theirs would say no more.
+    // Kept: three families have such a call, each with a theorem of its own; in a trait each would still name and prove it.
     // How many rules there are: one, which admits a possible event exactly when it allows the state that a grant makes.
     pub fn exactness(&self) -> u8
         ensures value { result ≡ 1 }

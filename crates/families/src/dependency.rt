@@ -114,6 +114,7 @@ impl Rule for Dependency {
 }
 
 impl Dependency {
+    // Kept: as in cardinality, the call carries a theorem of its own.
     // In a state that it allows, dependency fails to admit a possible event exactly when it would not allow the state after.
     pub fn exactness(&self) -> u8
         ensures value { result ≡ 1 }
