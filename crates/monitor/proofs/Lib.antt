@@ -1,3 +1,4 @@
+pub mod Folded
 pub mod Begun
 pub mod Entitled
 pub mod Ledgers

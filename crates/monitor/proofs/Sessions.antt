@@ -1,43 +1,36 @@
 -- Sums over the sessions, one session more or another in its place.
-use Rattle.std.proofs.Common.{◌≡◌, ℕ, zero, suc, ◌+◌, ◌<◌, ◌≤◌, Bool, true, false, cond, ◌⊎◌, List, [], ◌∷◌, length, get_or, drop, set, sym, refl, ap, ◌∙◌, inl, inr, arith}
-use Rattle.std.proofs.lemmas.List.{at_drop_more, at_drop_all, get_or-set_same, get_or-set_other, set_past}
+use Rattle.std.proofs.Common.{◌≡◌, ℕ, zero, suc, ◌+◌, ◌<◌, ◌≤◌, Bool, true, false, cond, ◌⊎◌, List, [], ◌∷◌, length, get_or, reverse, set, sym, refl, ap, ◌∙◌, inl, inr, arith}
+use Rattle.std.specs.List.{fold, count_by}
+use Rattle.std.proofs.lemmas.List.Recursion.{is_count_by}
+use Rattle.std.proofs.lemmas.List.Sums.{fold-append}
+use Rattle.std.proofs.lemmas.List.{reverse-append, get_or-set_same, get_or-set_other, set_past}
 use Rattle.std.proofs.lemmas.Bool.{both_ways, cases_Bool, cases_eq, cases_lt, cond-true, cond-false, or_cases, or_left, or_right}
 use Rattle.sets.proofs.Laws.{has-zero, has-union}
 use Rattle.sets.specs.Aliases.{RoleSet}
 use Rattle.sets.specs.Sets.{has, union}
+use Rattle.policy.specs.Entries.{no_roles}
 use Rattle.monitor.specs.declared.cells.Session.{Session}
 use Rattle.monitor.specs.declared.cells.Session.TheVariants.{Closed}
 use Rattle.monitor.specs.declared.cells.Whose.{Whose}
 use Rattle.monitor.specs.Cells.{active, counts, active_in, sessions_using, tally}
 
-pub tally_le : (b : Bool) → tally b ≤ 1
-tally_le true = omega arith
-tally_le false = omega arith
+-- the sessions that are meant, from the last to the first
+abbrev pub with_session : Whose → RoleSet → Session → RoleSet
+with_session w all x = record { bits = union (cond (counts w x) (active x) 0) all.bits }
 
--- a loop down: one session more in front
-pub active_more : (w : Whose) (xs : List Session) (i at : ℕ) (all here : RoleSet) → at ≡ i + 1 → at ≤ length xs
-    → here ≡ record { bits = cond (counts w (get_or xs i Closed)) (active (get_or xs i Closed)) 0 }
-    → all ≡ record { bits = active_in w (drop at xs) }
-    → ◌≡◌ {A = RoleSet} (record { bits = union here.bits all.bits }) (record { bits = active_in w (drop i xs) })
-active_more w xs i at all here e l eh ea =
-    let m : active_in w (drop i xs) ≡ union (cond (counts w (get_or xs i Closed)) (active (get_or xs i Closed)) 0) (active_in w (drop (i + 1) xs)) =
-    at_drop_more (active_in w) xs i Closed (omega arith) in
-    let n : active_in w (drop at xs) ≡ active_in w (drop (i + 1) xs) = ap (λ k. active_in w (drop k xs)) e in
-    cc
+pub active_fold : (w : Whose) (xs : List Session) → fold (with_session w) no_roles (reverse xs) ≡ record { bits = active_in w xs }
+active_fold w [] = refl
+active_fold w (x ∷ xs) =
+    ap (fold (with_session w) no_roles) (reverse-append (x ∷ []) xs) ∙ fold-append (with_session w) no_roles (reverse xs) (x ∷ [])
+    ∙ ap (λ (s : RoleSet). with_session w s x) (active_fold w xs)
 
-pub active_none : (w : Whose) (xs : List Session) (i : ℕ) (all : RoleSet) → length xs ≤ i → all ≡ record { bits = 0 } → all ≡ record { bits = active_in w (drop i xs) }
-active_none w xs i all l e = let m : active_in w (drop i xs) ≡ 0 = at_drop_all (active_in w) xs i l in cc
-
--- a loop up: one session counted, and all of them
-pub using_more : (xs : List Session) (i r n t u : ℕ) → i < length xs → u ≡ tally (has (active (get_or xs i Closed)) r)
-    → n + sessions_using (drop i xs) r ≡ t → n + u + sessions_using (drop (i + 1) xs) r ≡ t
-using_more xs i r n t u l h e =
-    let m : sessions_using (drop i xs) r ≡ tally (has (active (get_or xs i Closed)) r) + sessions_using (drop (i + 1) xs) r =
-    at_drop_more (λ ys. sessions_using ys r) xs i Closed l in
-    omega arith
-
-pub using_all : (xs : List Session) (i r n t : ℕ) → length xs ≤ i → n + sessions_using (drop i xs) r ≡ t → n ≡ t
-using_all xs i r n t l e = let m : sessions_using (drop i xs) r ≡ 0 = at_drop_all (λ ys. sessions_using ys r) xs i l in omega arith
+-- the sessions that have the role active, counted
+pub using_count : (xs : List Session) (r : ℕ) → count_by (λ x. has (active x) r) xs ≡ sessions_using xs r
+using_count xs r = sym (is_count_by (λ (ys : List Session). sessions_using ys r) (λ x. has (active x) r) refl (λ x ys. chosen (has (active x) r) (sessions_using ys r)) xs)
+  where
+    chosen : (b : Bool) (n : ℕ) → tally b + n ≡ cond b (1 + n) n
+    chosen true n = omega arith
+    chosen false n = omega arith
 
 -- a role active in a session that counts is among those active
 pub active-counted : (w : Whose) (xs : List Session) (s r : ℕ) → counts w (get_or xs s Closed) ≡ true → has (active (get_or xs s Closed)) r ≡ true

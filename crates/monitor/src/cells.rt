@@ -2,6 +2,7 @@
 use sets::RoleSet;
 
 // A session: closed, or open with its owner and its active roles.
+// Kept: closed and open are the words of the events and their answers, which `None` and `Some` would hide.
 #[derive(Clone, Copy)]
 pub enum Session {
     Closed,
@@ -18,6 +19,7 @@ pub struct Cells {
 }
 
 // Whose sessions are meant.
+// Kept: `Anyone` says what an Option's `None` would hide, that every session counts and not none.
 #[derive(Clone, Copy)]
 pub enum Whose {
     Anyone,

@@ -33,6 +33,7 @@ impl<P: Rule> Monitor<P> {
     }
 
     // Decides an event: where it is possible and every rule admits it, it is done.
+    // Kept: that the policy and the pile stay as they were ties two moments, before and after, as no invariant can.
     pub fn decide(&mut self, event: Event) -> Answer
         ensures answer { result ≡ answer_to (P.rules self.old.pile) self.old.ledger event }
         ensures state { self.new.ledger.state.cells ≡ state_after (P.rules self.old.pile) self.old.ledger event }

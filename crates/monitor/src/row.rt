@@ -7,6 +7,7 @@ use records::event::Event;
 use sets::RoleSet;
 
 // The event's kind, and the number, subject, place and roles of its answer.
+// Kept: these numbers are the written form of a row, which the format fixes.
 #[derive(Clone, Copy, Default)]
 pub struct Row {
     pub kind: u8,

@@ -11,6 +11,7 @@ use records::event::Event;
 use sets::RoleSet;
 
 // The right to close one session. It is not copied, and may be let go only once it is spent.
+// Kept: the flag is what the drop asks for, so that a ticket put down unspent is refused; a type for spent tickets could not ask it.
 pub struct Ticket {
     session: u8,
     spent: bool,

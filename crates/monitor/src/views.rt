@@ -7,6 +7,7 @@ ghost use Rattle.monitor.specs.Cells.{active, owner, counts, session_at, active_
 
 use crate::cells::{Session, Whose};
 use crate::state::State;
+use policy::rows::at_or;
 use sets::RoleSet;
 
 impl Session {
@@ -46,35 +47,26 @@ impl Session {
             (_, Session::Closed) => RoleSet { bits: 0 },
         }
     }
-
-    // 1 where the session has the role active, else 0.
-    fn uses(self, role: u8) -> u8
-        ensures { result ≡ tally (has (active self) role) }
-    {
-        if self.active().contains(role) { 1 } else { 0 }
-    }
 }
 
 // The roles active in those of the sessions that are meant.
 pub fn active_among(sessions: &[Session; 64], whose: Whose) -> RoleSet
     ensures { result ≡ record { bits = active_in whose sessions.now } }
 {
-    let mut all = RoleSet::empty();
-    for at in (0..64usize).rev() {
-        all = sessions[at].active_for(whose).union(all);
-    }
-    all
+    sessions.iter().rev().fold(
+        RoleSet::empty(),
+        |all, session| session.active_for(whose).union(all),
+    )
 }
 
 // How many of the sessions have the role active.
 pub fn using_among(sessions: &[Session; 64], role: u8) -> u8
     ensures { result ≡ sessions_using sessions.now role }
 {
-    let mut count: u8 = 0;
-    for session in sessions {
-        count += session.uses(role);
-    }
-    count
+    sessions
+        .iter()
+        .filter(|session| session.active().contains(role))
+        .count() as u8
 }
 
 impl State {
@@ -82,33 +74,21 @@ impl State {
     pub fn session(&self, session: u8) -> Session
         ensures { result ≡ session_at self.now.cells session }
     {
-        if session < 64 {
-            self.cells.sessions[session as usize]
-        } else {
-            Session::Closed
-        }
+        at_or(&self.cells.sessions, session, Session::Closed)
     }
 
     // The roles assigned to a user; past the users there are none.
     pub fn assigned(&self, user: u8) -> RoleSet
         ensures { result ≡ slice_index_or self.now.cells.assigned user no_roles }
     {
-        if user < 64 {
-            self.cells.assigned[user as usize]
-        } else {
-            RoleSet { bits: 0 }
-        }
+        at_or(&self.cells.assigned, user, RoleSet::empty())
     }
 
     // The roles that a user is authorised for; past the users there are none.
     pub fn authorised(&self, user: u8) -> RoleSet
         ensures { result ≡ slice_index_or self.now.cells.authorised user no_roles }
     {
-        if user < 64 {
-            self.cells.authorised[user as usize]
-        } else {
-            RoleSet { bits: 0 }
-        }
+        at_or(&self.cells.authorised, user, RoleSet::empty())
     }
 
     // The roles active in the sessions that are meant.

@@ -1,12 +1,16 @@
-use Rattle.std.proofs.Common.{◌-◌, ◌∙◌, arith}
-use Rattle.monitor.proofs.Sessions.{active_more, active_none}
+use Rattle.std.proofs.Common.{◌≡◌, reverse, ap, ◌∙◌, rules}
+use Rattle.std.specs.List.{fold}
+use Rattle.std.proofs.lemmas.Iterator.Adapters.{YieldsList-from_rev_slice}
+use borrow.Author.Tests.{tests}
+use Rattle.sets.specs.Aliases.{RoleSet}
+use Rattle.monitor.proofs.Folded.{folded}
+use Rattle.monitor.proofs.Sessions.{with_session, active_fold}
 use Rattle.monitor.proofs.views.active_among.Goals as goal
 
-pub loop-at-init : goal.loop-at-init
-loop-at-init c = active_none c.args.whose c.args.sessions.now 64 c.empty-all.result (omega (arith)) c.empty-all.ensures.value
-
-pub loop-at-preserved : goal.loop-at-preserved
-loop-at-preserved c =
-    c.union-all.ensures.value
-    ∙ active_more c.args.whose c.args.sessions.now (c.loop-at.at - 1) c.loop-at.at c.loop-at.all c.active_for.result
-    (omega (arith, c.loop-at-test.true)) (omega (arith)) c.active_for.ensures c.loop-at.invariant
+pub returns : goal.returns
+returns c =
+    let w = c.args.whose in
+    let xs = c.args.sessions.now in
+    let e : c.fold.result ≡ fold (with_session w) c.empty.result (reverse xs) =
+    folded (with_session w) c.empty.result c.fold.result c.fold.ensures.ran (YieldsList-from_rev_slice xs (cc)) (λ a x b f' k. search (rules, tests)) in
+    e ∙ ap (λ (s : RoleSet). fold (with_session w) s (reverse xs)) c.empty.ensures.value ∙ active_fold w xs

@@ -1,12 +1,12 @@
-use Rattle.std.proofs.Common.{arith}
-use Rattle.monitor.proofs.Sessions.{tally_le, using_more, using_all}
+use Rattle.std.proofs.Common.{◌≡◌, ◌∙◌, rules}
+use Rattle.std.specs.List.{count_by}
+use Rattle.std.proofs.iter.runs.Made.{chains}
+use Rattle.sets.specs.Sets.{has}
+use Rattle.monitor.specs.Cells.{active}
+use Rattle.monitor.proofs.Sessions.{using_count}
 use Rattle.monitor.proofs.views.using_among.Goals as goal
 
-pub loop-session-preserved : goal.loop-session-preserved
-loop-session-preserved c = (
-  omega (arith, c.uses-count.ensures, tally_le),
-  using_more c.args.sessions.now c.loop-session.session-index c.args.role _ _ _ (omega arith) c.uses-count.ensures c.loop-session.invariant.1,
-)
-
 pub returns : goal.returns
-returns c = using_all c.args.sessions.now _ c.args.role _ _ (omega (arith, c.loop-session-test.false)) c.loop-session.invariant.1
+returns c =
+    let e : c.count.result ≡ count_by (λ x. has (active x) c.args.role) c.args.sessions.now = search (rules, chains) in
+    e ∙ using_count c.args.sessions.now c.args.role
