@@ -12,8 +12,9 @@ use Rattle.monitor.specs.declared.row.Row.{Row}
 use Rattle.monitor.specs.declared.run.Pause.TheVariants.{NoByteLeft, NoRowLeft}
 use Rattle.monitor.specs.History.{reply, step, replies, after}
 use Rattle.monitor.specs.Meaning.{Meaning}
-use Rattle.monitor.specs.Rows.{row_of, rows_of}
-use Rattle.monitor.specs.Scripts.{End, Script, ended, first, onward, script}
+use Rattle.monitor.specs.declared.run.Outcome.{Outcome}
+use Rattle.monitor.specs.Rows.{row_of, rows_of, outcome}
+use Rattle.monitor.specs.Scripts.{End, Script, ended, first, onward, script, script_of}
 use Rattle.monitor.proofs.Lives.{after_append}
 
 pub length-rows : (ms : List Meaning) (t : Tables) (c : Cells) (es : List Event) → length (rows_of es (replies ms t c es)) ≡ length es
@@ -117,6 +118,10 @@ module _ (ms : List Meaning) (l : Ledger) (rows₀ : List Row) (bytes : List ℕ
 
       events : (script (length rows₀) bytes 0).events ≡ f.events
       events = ap (λ s. s.events) whole ∙ append-nil f.events
+
+  pub answered : {count taken : ℕ} {rows : List Row} {c : Cells} {why : End} → Filled count taken rows c why
+      → ◌≡◌ {A = Outcome} (record { rows = count; bytes = taken; end = why }) (outcome (script_of bytes rows₀))
+  answered f = let a = f.counted in let b = f.bytes-taken in let e = f.end in cc
 
   -- one event more
   pub refilled : {count taken : ℕ} {rest : List ℕ} {rows : List Row} {c : Cells} → Filling count taken rest rows c

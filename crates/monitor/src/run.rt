@@ -40,41 +40,47 @@ impl Outcome {
     }
 }
 
-// How far a run has come.
-#[derive(Clone, Copy)]
-struct Progress {
-    rows: usize,
-    bytes: usize,
-}
-
-// Fills a row for each event, and counts rows and bytes, until something ends it.
-fn fill<P: Rule>(
-    monitor: &mut Monitor<P>,
-    bytes: &[u8],
-    rows: &mut [Row],
-    done: &mut Progress,
-) -> Result<Pause, Fault>
-    requires { (done.old.rows ≡ 0) × (done.old.bytes ≡ 0) }
-    ensures end { result ≡ (script_of bytes.now rows.old).end }
-    ensures count { done.new.rows ≡ length (script_of bytes.now rows.old).events }
-    ensures bytes { done.new.bytes ≡ (script_of bytes.now rows.old).bytes }
+// Fills a row for each event, until something ends it: the run itself, from which `run` has its laws.
+fn fill<P: Rule>(monitor: &mut Monitor<P>, bytes: &[u8], rows: &mut [Row]) -> Outcome
+    ensures answer { result ≡ outcome (script_of bytes.now rows.old) }
     ensures rows { rows.new ≡ rows_after (P.rules monitor.old.pile) monitor.old.ledger bytes.now rows.old }
     ensures state { monitor.new.ledger.state.cells ≡ state_run (P.rules monitor.old.pile) monitor.old.ledger bytes.now rows.old }
     ensures policy { monitor.new.ledger.policy ≡ monitor.old.ledger.policy }
     ensures pile { monitor.new.pile ≡ monitor.old.pile }
 {
     let mut rest = bytes;
-    while !rest.is_empty() {
-        if done.rows >= rows.len() {
-            return Ok(Pause::NoRowLeft);
+    for (filled, row) in rows.iter_mut().enumerate() {
+        let taken = bytes.len() - rest.len();
+        if rest.is_empty() {
+            return Outcome {
+                rows: filled,
+                bytes: taken,
+                end: Ok(Pause::NoByteLeft),
+            };
         }
-        let (event, tail) = take::<Event>(rest, done.bytes)?;
-        rows[done.rows] = Row::of(event, monitor.decide(event));
-        done.rows += 1;
-        done.bytes += rest.len() - tail.len();
-        rest = tail;
+        match take::<Event>(rest, taken) {
+            Err(fault) => {
+                return Outcome {
+                    rows: filled,
+                    bytes: taken,
+                    end: Err(fault),
+                };
+            }
+            Ok((event, tail)) => {
+                *row = Row::of(event, monitor.decide(event));
+                rest = tail;
+            }
+        }
     }
-    Ok(Pause::NoByteLeft)
+    Outcome {
+        rows: rows.len(),
+        bytes: bytes.len() - rest.len(),
+        end: Ok(if rest.is_empty() {
+            Pause::NoByteLeft
+        } else {
+            Pause::NoRowLeft
+        }),
+    }
 }
 
 // Decides each event of the bytes and writes its row, while there are rows. It ends when no byte is left, when no row is left, or
@@ -89,11 +95,5 @@ pub fn run<P: Rule>(monitor: &mut Monitor<P>, bytes: &[u8], rows: &mut [Row]) ->
     ensures within { (result.rows ≤ length rows.old) × ((result.rows ≤ result.bytes) × (result.bytes ≤ length bytes.now)) }
     ensures joins { result.end ≡ Ok NoRowLeft → Joins (P.rules monitor.old.pile) monitor.old.ledger.policy.draft.tables monitor.old.ledger.state.cells bytes.now (length rows.old) }
 {
-    let mut done = Progress { rows: 0, bytes: 0 };
-    let end = fill(monitor, bytes, rows, &mut done);
-    Outcome {
-        rows: done.rows,
-        bytes: done.bytes,
-        end,
-    }
+    fill(monitor, bytes, rows)
 }
