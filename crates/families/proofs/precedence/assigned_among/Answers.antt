@@ -4,7 +4,7 @@ use Rattle.std.proofs.lemmas.Iterator.Adapters.{YieldsList-from_rev_slice}
 use borrow.Author.Tests.{tests}
 use Rattle.sets.specs.Aliases.{RoleSet}
 use Rattle.families.proofs.Assigned.{with_roles, assigned_fold}
-use Rattle.families.proofs.Folded.{folded}
+use Rattle.monitor.proofs.Folded.{folded}
 use Rattle.families.proofs.precedence.assigned_among.Goals as goal
 
 pub returns : goal.returns

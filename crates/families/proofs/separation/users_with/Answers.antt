@@ -8,7 +8,7 @@ use Rattle.sets.specs.Aliases.{UserSet}
 use Rattle.sets.proofs.Laws.{has-zero}
 use Rattle.monitor.specs.declared.cells.Whose.TheVariants.{User}
 use Rattle.monitor.specs.Cells.{active_in}
-use Rattle.families.proofs.Folded.{folded}
+use Rattle.monitor.proofs.Folded.{folded}
 use Rattle.families.proofs.Rivals.{has_active, with_owner, owners}
 use Rattle.families.proofs.separation.users_with.Goals as goal
 
