@@ -88,14 +88,15 @@ impl<'a> Asked<'a> {
     }
 }
 
+#[tactic(auto, unfolding(crate::specs::Cells::blank))]
 fn blank_cells() -> Cells
     ensures { result ≡ blank }
 {
-    let no_roles = [RoleSet { bits: 0 }; 64];
+    let no_roles = [RoleSet::empty(); 64];
     Cells {
         assigned: no_roles,
         authorised: no_roles,
-        enabled: RoleSet { bits: 0 },
+        enabled: RoleSet::empty(),
         sessions: [Session::Closed; 64],
     }
 }

@@ -16,7 +16,7 @@ impl Session {
         ensures { result ≡ record { bits = active self } }
     {
         match self {
-            Session::Closed => RoleSet { bits: 0 },
+            Session::Closed => RoleSet::empty(),
             Session::Open { active, .. } => active,
         }
     }
@@ -40,11 +40,11 @@ impl Session {
                 if owner == user {
                     active
                 } else {
-                    RoleSet { bits: 0 }
+                    RoleSet::empty()
                 }
             }
             (Whose::Anyone, Session::Open { active, .. }) => active,
-            (_, Session::Closed) => RoleSet { bits: 0 },
+            (_, Session::Closed) => RoleSet::empty(),
         }
     }
 }
