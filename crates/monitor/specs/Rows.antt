@@ -1,13 +1,13 @@
 -- The row of each event: its kind and what it was answered; and what a run leaves. Assumes nothing.
-use Rattle.std.specs.Prelude.{ℕ, List, [], ◌∷◌, ◌++◌, length, drop}
+use Rattle.std.specs.Prelude.{◌≡◌, ℕ, ◌<◌, List, [], ◌∷◌, ◌++◌, length, drop, Ok}
 use Rattle.records.specs.declared.event.Event.{Event}
-use Rattle.records.specs.Events.{kind_of}
+use Rattle.records.specs.Events.{kind_of, event_taken}
 use Rattle.monitor.specs.declared.cells.Cells.{Cells}
 use Rattle.monitor.specs.declared.ledger.Ledger.{Ledger}
 use Rattle.monitor.specs.declared.row.Row.{Row}
 use Rattle.monitor.specs.declared.run.Outcome.{Outcome}
 use Rattle.monitor.specs.Answers.{Answer, number_of, subject_of, place_of, roles_of}
-use Rattle.monitor.specs.Ledgers.{answers_to, state_after_all, Adds}
+use Rattle.monitor.specs.Ledgers.{answer_to, state_after, answers_to, state_after_all, Adds}
 use Rattle.monitor.specs.Meaning.{Meaning}
 use Rattle.monitor.specs.Scripts.{Script, script_of}
 
@@ -27,6 +27,14 @@ rows_after ms l bytes rows =
 
 abbrev pub state_run : List Meaning → Ledger → List ℕ → List Row → Cells
 state_run ms l bytes rows = state_after_all ms l (script_of bytes rows).events
+
+-- at a place, one event at the front of the bytes: with its row, the bytes after it and the state after it
+pub record Stepped (ms : List Meaning) (l : Ledger) (bytes : List ℕ) (at : ℕ) (tail : List ℕ) (row : Row) (c : Cells) : Type 0 where
+  pub event : Event
+  pub taken : event_taken bytes at ≡ Ok (event, tail)
+  pub shorter : length tail < length bytes
+  pub written : row ≡ row_of event (answer_to ms l event)
+  pub reached : c ≡ state_after ms l event
 
 abbrev pub outcome : Script → Outcome
 outcome s = record { rows = length s.events; bytes = s.bytes; end = s.end }

@@ -1,8 +1,9 @@
 // The run: event bytes in, one row out for each event.
-ghost use Rattle.std.specs.Prelude.{◌≡◌, ◌≤◌, length, Ok};
+ghost use Rattle.std.specs.Prelude.{◌≡◌, ◌≤◌, length, Ok, Err, MatchResult};
+ghost use Rattle.records.specs.Events.{event_taken};
 ghost use Rattle.monitor.specs.declared.run.Pause.TheVariants.{NoRowLeft};
 ghost use Rattle.monitor.specs.OneRun.{Joins};
-ghost use Rattle.monitor.specs.Rows.{outcome, rows_after, state_run, LivesOn};
+ghost use Rattle.monitor.specs.Rows.{outcome, rows_after, state_run, LivesOn, Stepped};
 ghost use Rattle.monitor.specs.Scripts.{end_number, script_of};
 
 use crate::decide::Monitor;
@@ -40,6 +41,22 @@ impl Outcome {
     }
 }
 
+// Decides the event at the front and writes its row, and answers the bytes after it; `at` is its place.
+fn step<'a, P: Rule>(
+    monitor: &mut Monitor<P>,
+    bytes: &'a [u8],
+    at: usize,
+    row: &mut Row,
+) -> Result<&'a [u8], Fault>
+    ensures step { MatchResult result (λ tail. Stepped (P.rules monitor.old.pile) monitor.old.ledger bytes.now at tail.now row.new monitor.new.ledger.state.cells) (λ f. (event_taken bytes.now at ≡ Err f) × ((row.new ≡ row.old) × (monitor.new.ledger.state.cells ≡ monitor.old.ledger.state.cells))) }
+    ensures policy { monitor.new.ledger.policy ≡ monitor.old.ledger.policy }
+    ensures pile { monitor.new.pile ≡ monitor.old.pile }
+{
+    let (event, tail) = take::<Event>(bytes, at)?;
+    *row = Row::of(event, monitor.decide(event));
+    Ok(tail)
+}
+
 // Fills a row for each event, until something ends it: the run itself, from which `run` has its laws.
 fn fill<P: Rule>(monitor: &mut Monitor<P>, bytes: &[u8], rows: &mut [Row]) -> Outcome
     ensures answer { result ≡ outcome (script_of bytes.now rows.old) }
@@ -58,17 +75,14 @@ fn fill<P: Rule>(monitor: &mut Monitor<P>, bytes: &[u8], rows: &mut [Row]) -> Ou
                 end: Ok(Pause::NoByteLeft),
             };
         }
-        match take::<Event>(rest, taken) {
+        match step(monitor, rest, taken, row) {
+            Ok(tail) => rest = tail,
             Err(fault) => {
                 return Outcome {
                     rows: filled,
                     bytes: taken,
                     end: Err(fault),
                 };
-            }
-            Ok((event, tail)) => {
-                *row = Row::of(event, monitor.decide(event));
-                rest = tail;
             }
         }
     }

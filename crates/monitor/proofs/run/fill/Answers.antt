@@ -1,9 +1,9 @@
-use Rattle.std.proofs.Common.{◌≡◌, ℕ, ◌+◌, ◌-◌, length, set, Ok, Err, sym, refl, ◌∙◌, subst, subst₂, arith}
+use Rattle.std.proofs.Common.{◌≡◌, ℕ, ◌+◌, ◌-◌, length, set, Ok, Err, sym, refl, ap, ◌∙◌, subst, subst₂, arith}
 use Rattle.std.proofs.lemmas.Bool.{eqb-true, eqb-false}
 use Rattle.std.proofs.lemmas.List.{set-get_or}
 use Rattle.monitor.specs.declared.run.Pause.TheVariants.{NoByteLeft, NoRowLeft}
 use Rattle.monitor.specs.declared.run.Outcome.{Outcome}
-use Rattle.monitor.specs.Rows.{outcome}
+use Rattle.monitor.specs.Rows.{row_of, outcome}
 use Rattle.monitor.specs.Scripts.{script_of}
 use Rattle.monitor.specs.History.{reply, step}
 use Rattle.monitor.proofs.Filling.{Filling, unfilled, filled, answered, refilled, no_byte, no_row, no_event}
@@ -43,37 +43,38 @@ pub returns-in-Err : goal.returns-in-Err
 returns-in-Err g c =
     let m = c.args.monitor.now in
     let f = c.loop-filled.invariant.0 in
+    let stays = c.in-Err.ensures.step in
     let is = filled (g.P.Rule.rules m.pile) m.ledger c.args.rows.now c.args.bytes.now (Err c.in-Err.fault) f
     (no_event f.left c.loop-filled.rest.now _ c.in-Err.fault
     (omega (arith, f.room, c.loop-filled-test.true))
-    (omega (arith, eqb-false (length c.loop-filled.rest.now) 0 (sym c.if-is_empty.ensures))) c.in-Err.ensures.value) in
+    (omega (arith, eqb-false (length c.loop-filled.rest.now) 0 (sym c.if-is_empty.ensures))) stays.0) in
     record {
       answer = answered (g.P.Rule.rules m.pile) m.ledger c.args.rows.now c.args.bytes.now is;
-      rows = set-get_or c.loop-filled.rows c.loop-filled.filled _ ∙ is.written;
-      state = is.reached;
-      policy = c.loop-filled.invariant.1;
-      pile = c.loop-filled.invariant.2;
+      rows = ap (set c.loop-filled.rows c.loop-filled.filled) stays.1.0 ∙ set-get_or c.loop-filled.rows c.loop-filled.filled _ ∙ is.written;
+      state = stays.1.1 ∙ is.reached;
+      policy = c.in-Err.ensures.policy ∙ c.loop-filled.invariant.1;
+      pile = c.in-Err.ensures.pile ∙ c.loop-filled.invariant.2;
     }
 
 pub loop-filled-preserved : goal.loop-filled-preserved
 loop-filled-preserved g c =
     let m = c.args.monitor.now in
     let f = c.loop-filled.invariant.0 in
+    let ms = g.P.Rule.rules m.pile in
     let now = c.loop-filled.monitor.ledger.state.cells in
-    let e = c.in-Ok.event in
-    let took = c.in-Ok.ensures in
-    let said = c.decide.ensures in
+    let took = c.in-Ok.ensures.step in
+    let e = took.event in
     let same-policy = c.loop-filled.invariant.1 in
     let same-pile = c.loop-filled.invariant.2 in
-    let more = refilled (g.P.Rule.rules m.pile) m.ledger c.args.rows.now c.args.bytes.now f (omega (arith, c.loop-filled-test.true, c.loop-filled.auto.rows)) e c.in-Ok.tail.now took.value took.shorter
-    c.decide.result c.decide.new.self.ledger.state.cells c.of.result
-    (subst₂ (λ x p. c.decide.result ≡ reply (g.P.Rule.rules x) p.draft.tables now e) same-pile same-policy said.answer)
-    (subst₂ (λ x p. c.decide.new.self.ledger.state.cells ≡ step (g.P.Rule.rules x) p.draft.tables now e) same-pile same-policy said.state)
-    c.of.ensures in (
-      subst (λ (n : ℕ). Filling (g.P.Rule.rules m.pile) m.ledger c.args.rows.now c.args.bytes.now (c.loop-filled.filled + 1) n c.in-Ok.tail.now (set c.loop-filled.rows c.loop-filled.filled c.of.result) c.decide.new.self.ledger.state.cells)
+    let more = refilled ms m.ledger c.args.rows.now c.args.bytes.now f (omega (arith, c.loop-filled-test.true, c.loop-filled.auto.rows)) e c.in-Ok.tail.now took.taken took.shorter
+    (reply ms m.ledger.policy.draft.tables now e) c.step.new.monitor.ledger.state.cells c.step.new.row
+    refl
+    (subst₂ (λ x p. c.step.new.monitor.ledger.state.cells ≡ step (g.P.Rule.rules x) p.draft.tables now e) same-pile same-policy took.reached)
+    (subst₂ (λ x p. c.step.new.row ≡ row_of e (reply (g.P.Rule.rules x) p.draft.tables now e)) same-pile same-policy took.written) in (
+      subst (λ (n : ℕ). Filling ms m.ledger c.args.rows.now c.args.bytes.now (c.loop-filled.filled + 1) n c.in-Ok.tail.now (set c.loop-filled.rows c.loop-filled.filled c.step.new.row) c.step.new.monitor.ledger.state.cells)
           (omega (arith, f.inside, took.shorter)) more,
-      said.policy ∙ same-policy,
-      said.pile ∙ same-pile,
+      c.in-Ok.ensures.policy ∙ same-policy,
+      c.in-Ok.ensures.pile ∙ same-pile,
     )
 
 pub returns-then-is_empty-2 : goal.returns-then-is_empty-2
