@@ -5,7 +5,7 @@ ghost use Rattle.policy.specs.Updates.{only, bare, with_role};
 ghost use Rattle.policy.specs.Reading.{is_sizes, is_end, in_range, differ, unlimited, entered, applied, reading, answered, drafted};
 
 use crate::draft::Draft;
-use crate::rows::{add_pair, add_role, add_users, at_or, put};
+use crate::rows::{add, add_pair, add_users, at_or, put};
 use crate::tables::{
     Dependencies, Hierarchy, Limits, Requirements, RoleConflicts, Sizes, Tables, UserConflicts,
 };
@@ -128,7 +128,7 @@ fn add_required(requirements: &mut Requirements, condition: u8, role: u8, requir
 {
     let at = condition.saturating_sub(1);
     let mut rows = at_or(&requirements.sets, at, [RoleSet::empty(); 32]);
-    add_role(&mut rows, role, required);
+    add(&mut rows, role, required);
     put(&mut requirements.sets, at, rows);
 }
 
@@ -146,7 +146,7 @@ fn enter(tables: &mut Tables, entry: Entry)
             roles,
             sessions,
         }),
-        Entry::Inherits { senior, junior } => add_role(
+        Entry::Inherits { senior, junior } => add(
             &mut tables.hierarchy.juniors,
             senior,
             junior,
@@ -175,7 +175,7 @@ fn enter(tables: &mut Tables, entry: Entry)
             role,
             required,
         } => add_required(&mut tables.requirements, condition, role, required),
-        Entry::Dependency { role, needs } => add_role(&mut tables.dependencies.needs, role, needs),
+        Entry::Dependency { role, needs } => add(&mut tables.dependencies.needs, role, needs),
         Entry::End => {}
     }
 }
