@@ -1,6 +1,6 @@
 -- The tables of a draft are well formed when they are begun, and every entry that may be entered keeps them so.
-use Rattle.std.proofs.Common.{◌≡◌, ℕ, ◌<◌, ◌≤◌, Bool, true, false, cond, ◌&&◌, eqb, ltb, leb, List, [], length, get_or, set, replicate, Ok, Err, sym, refl, ap, ◌∙◌, subst, arith}
-use Rattle.std.proofs.lemmas.List.{length-set, length-replicate, get_or-set_same, get_or-replicate, set-set}
+use Rattle.std.proofs.Common.{◌≡◌, ℕ, ◌<◌, ◌≤◌, Bool, true, false, cond, ◌&&◌, eqb, ltb, leb, List, [], length, get_or, replicate, Ok, Err, sym, refl, ap, ◌∙◌, subst, arith}
+use Rattle.std.proofs.lemmas.List.{length-set, length-replicate, get_or-replicate}
 use Rattle.std.proofs.lemmas.Bool.{ltb-true, leb-true, eqb-false, not-true, and_parts, both_ways}
 use Rattle.records.specs.Kinds.{between}
 use Rattle.records.specs.declared.entry.Entry.{Entry}
@@ -15,7 +15,7 @@ use Rattle.policy.specs.Entries.{no_roles, no_users, holds, holds_user}
 use Rattle.policy.specs.WellFormed.{Sized, Wide, Within, Mutual, WellFormed}
 use Rattle.policy.specs.Updates.{only, bare, with_role, with_pair, with_users}
 use Rattle.policy.specs.Reading.{same, is_sizes, in_range, differ, unlimited, entered, applied}
-use Rattle.policy.proofs.Members.{roles, users, member, more, both, set_each, replicate_each, no_member, more_within, both_within, both_apart, both_length, both_mutual}
+use Rattle.policy.proofs.Members.{roles, users, member, both, set_each, replicate_each, no_member, more_within, both_within, both_apart, both_length, both_mutual}
 
 -- numbers of an entry in range
 below : (a b n : ℕ) → (ltb a n && ltb b n) ≡ true → (a < n) × (b < n)
@@ -130,19 +130,13 @@ pair_kept n rows a b l h p = (
 users_kept : (s : Counts) (rows : List (List UserSet)) (r u v : ℕ) → Counted s
     → r < s.roles → (u < s.users) × (v < s.users) → (u ≡ v → ⊥) → Users s rows → Users s (with_users rows r u v)
 users_kept s rows r u v z hr h ne (wide, each) =
-    (simp length-set wide, λ p. subst (λ ys. Row s p (get_or ys p [])) (sym one_write) (set_each (Row s) rows r new [] each new_row p))
+    (simp length-set wide, set_each (Row s) rows r new [] each new_row)
   where
     row : List UserSet
     row = get_or rows r []
 
     new : List UserSet
     new = both users row u v
-
-    one_write : with_users rows r u v ≡ set rows r new
-    one_write =
-        let mid : List UserSet = more users row u v in
-        set-set rows r mid (more users (get_or (set rows r mid) r []) v u)
-        ∙ ap (λ x. set rows r (more users x v u)) (get_or-set_same rows r mid [] (omega arith))
 
     new_row : Row s r new
     new_row =

@@ -1,5 +1,6 @@
 -- The tables with nothing in them, and with one entry more. Assumes nothing.
 use Rattle.std.specs.Prelude.{ℕ, List, [], get_or, replicate, None, slice_index_or, slice_set}
+use Rattle.sets.specs.declared.bit_set.BitSet.{BitSet}
 use Rattle.sets.specs.Aliases.{RoleSet, UserSet}
 use Rattle.sets.specs.Sets.{with_member}
 use Rattle.policy.specs.declared.tables.Sizes.{Sizes}
@@ -24,19 +25,23 @@ only sizes = record {
 abbrev pub bare : Tables
 bare = only (record { users = 1; roles = 1; sessions = 1 })
 
--- a row with one more member; an unordered pair is stored both ways
+-- a row with one more member, of sets over the words of a width; and a pair, which is stored both ways
+abbrev pub with_one : {W : Type 0} → (W → ℕ) → (ℕ → W) → ℕ → List (BitSet W) → ℕ → ℕ → List (BitSet W)
+with_one value word width rows a b =
+    slice_set rows a (record { bits = word (with_member width (value (get_or rows a (record { bits = word 0 })).bits) b) })
+
+abbrev pub with_both : {W : Type 0} → (W → ℕ) → (ℕ → W) → ℕ → List (BitSet W) → ℕ → ℕ → List (BitSet W)
+with_both value word width rows a b = with_one value word width (with_one value word width rows a b) b a
+
+-- the same of roles, and of the users in the row of a role
 abbrev pub with_role : List RoleSet → ℕ → ℕ → List RoleSet
-with_role rows a b = slice_set rows a (record { bits = with_member 32 (get_or rows a no_roles).bits b })
+with_role = with_one (λ n. n) (λ n. n) 32
 
 abbrev pub with_pair : List RoleSet → ℕ → ℕ → List RoleSet
-with_pair rows a b = with_role (with_role rows a b) b a
-
-abbrev pub with_user : List (List UserSet) → ℕ → ℕ → ℕ → List (List UserSet)
-with_user rows r u v =
-    slice_set rows r (slice_set (slice_index_or rows r []) u (record { bits = with_member 64 (get_or (slice_index_or rows r []) u no_users).bits v }))
+with_pair = with_both (λ n. n) (λ n. n) 32
 
 abbrev pub with_users : List (List UserSet) → ℕ → ℕ → ℕ → List (List UserSet)
-with_users rows r u v = with_user (with_user rows r u v) r v u
+with_users rows r u v = slice_set rows r (with_both (λ n. n) (λ n. n) 64 (slice_index_or rows r []) u v)
 
 -- the tables with one of them replaced
 abbrev pub put_hierarchy : Tables → List RoleSet → Tables

@@ -146,11 +146,7 @@ fn enter(tables: &mut Tables, entry: Entry)
             roles,
             sessions,
         }),
-        Entry::Inherits { senior, junior } => add(
-            &mut tables.hierarchy.juniors,
-            senior,
-            junior,
-        ),
+        Entry::Inherits { senior, junior } => add(&mut tables.hierarchy.juniors, senior, junior),
         Entry::StaticPair { first, second } => add_pair(&mut tables.ssd.partners, first, second),
         Entry::DynamicPair { first, second } => add_pair(&mut tables.dsd.partners, first, second),
         Entry::ConflictingUsers {
