@@ -147,6 +147,17 @@ spread_at : (k below : ℕ) (rows : List RoleSet) (a : ℕ) → a < length rows
 spread_at k below rows a l = get_or-map (extended k below) rows a no_roles no_roles l
 
 module _ (juniors : List RoleSet) (n : ℕ) (few : n ≤ 32) (inside : StepsWithin n (holds juniors)) where
+  -- where the roles below k inherit: the rows, the row of a role, and the roles below k itself
+  module _ (k : ℕ) where
+    abbrev rows : List RoleSet
+    rows = closed_below k juniors
+
+    abbrev row : ℕ → RoleSet
+    row a = get_or rows a no_roles
+
+    abbrev below : ℕ
+    below = gathered rows (get_or juniors k no_roles) 32
+
   -- what the table so far holds, and shows
   Held : ℕ → Type 0
   Held k = (a b : ℕ) → a < 32 → b < 32 → Senior (cut (holds juniors) k) a b → holds (closed_below k juniors) a b ≡ true
@@ -167,32 +178,23 @@ module _ (juniors : List RoleSet) (n : ℕ) (few : n ≤ 32) (inside : StepsWith
   unfolding closed_below Held
   held_more k lk ih a b la lb p = goes (one_more (holds juniors) k p)
     where
-      rows : List RoleSet
-      rows = closed_below k juniors
+      at : get_or (spread_rows k (below k) (rows k)) a no_roles ≡ extended k (below k) (row k a)
+      at = spread_at k (below k) (rows k) a (omega (arith, closed_length k juniors))
 
-      below : ℕ
-      below = gathered rows (get_or juniors k no_roles) 32
-
-      row : RoleSet
-      row = get_or rows a no_roles
-
-      at : get_or (spread_rows k below rows) a no_roles ≡ extended k below row
-      at = spread_at k below rows a (omega (arith, closed_length k juniors))
-
-      kept : has row.bits b ≡ true → has (extended k below row).bits b ≡ true
+      kept : has (row k a).bits b ≡ true → has (extended k (below k) (row k a)).bits b ≡ true
       kept h =
-          elim (cases_Bool (has row.bits k)) [
-            | inl t ↦ extended-has k below b row t ∙ or_left (has row.bits b) (has below b) h
-            | inr t ↦ ap (λ (s : RoleSet). has s.bits b) (extended-same k below row t) ∙ h
+          elim (cases_Bool (has (row k a).bits k)) [
+            | inl t ↦ extended-has k (below k) b (row k a) t ∙ or_left (has (row k a).bits b) (has (below k) b) h
+            | inr t ↦ ap (λ (s : RoleSet). has s.bits b) (extended-same k (below k) (row k a) t) ∙ h
           ]
 
-      goes : Senior (cut (holds juniors) k) a b ⊎ ByWay (holds juniors) k a b → holds (spread_rows k below rows) a b ≡ true
+      goes : Senior (cut (holds juniors) k) a b ⊎ ByWay (holds juniors) k a b → holds (spread_rows k (below k) (rows k)) a b ≡ true
       goes (inl q) = ap (λ (s : RoleSet). has s.bits b) at ∙ kept (ih a b la lb q)
       goes (inr w) =
           let j32 : w.junior < 32 = omega (arith, (inside k w.junior w.step).1) in
-          ap (λ (s : RoleSet). has s.bits b) at ∙ extended-has k below b row (ih a k la lk w.up)
-          ∙ or_right (has row.bits b) (has below b)
-          (gathered_in rows (get_or juniors k no_roles) 32 w.junior b j32 w.step (ih w.junior b j32 lb w.down))
+          ap (λ (s : RoleSet). has s.bits b) at ∙ extended-has k (below k) b (row k a) (ih a k la lk w.up)
+          ∙ or_right (has (row k a).bits b) (has (below k) b)
+          (gathered_in (rows k) (get_or juniors k no_roles) 32 w.junior b j32 w.step (ih w.junior b j32 lb w.down))
 
   wider : (k a c : ℕ) → cut (holds juniors) k a c ≡ true → cut (holds juniors) (suc k) a c ≡ true
   wider k a c e =
@@ -211,36 +213,27 @@ module _ (juniors : List RoleSet) (n : ℕ) (few : n ≤ 32) (inside : StepsWith
 
   shown_more : (k : ℕ) → Shown k → Shown (suc k)
   unfolding closed_below Shown
-  shown_more k ih a b h = goes (cases_Bool (has row.bits k))
+  shown_more k ih a b h = goes (cases_Bool (has (row k a).bits k))
     where
-      rows : List RoleSet
-      rows = closed_below k juniors
-
-      below : ℕ
-      below = gathered rows (get_or juniors k no_roles) 32
-
-      row : RoleSet
-      row = get_or rows a no_roles
-
       la : a < 32
       la = held_inside (closed_below (suc k) juniors) a b (closed_length (suc k) juniors) h
 
-      at : has (extended k below row).bits b ≡ true
-      at = sym (ap (λ (s : RoleSet). has s.bits b) (spread_at k below rows a (omega (arith, closed_length k juniors, la)))) ∙ h
+      at : has (extended k (below k) (row k a)).bits b ≡ true
+      at = sym (ap (λ (s : RoleSet). has s.bits b) (spread_at k (below k) (rows k) a (omega (arith, closed_length k juniors, la)))) ∙ h
 
-      old : has row.bits b ≡ true → Senior (cut (holds juniors) (suc k)) a b
+      old : has (row k a).bits b ≡ true → Senior (cut (holds juniors) (suc k)) a b
       old q = along (wider k) (ih a b q)
 
-      goes : (has row.bits k ≡ true) ⊎ (has row.bits k ≡ false) → Senior (cut (holds juniors) (suc k)) a b
+      goes : (has (row k a).bits k ≡ true) ⊎ (has (row k a).bits k ≡ false) → Senior (cut (holds juniors) (suc k)) a b
       goes (inl t) =
-          elim (or_cases (has row.bits b) (has below b) (sym (extended-has k below b row t) ∙ at)) [
+          elim (or_cases (has (row k a).bits b) (has (below k) b) (sym (extended-has k (below k) b (row k a) t) ∙ at)) [
             | inl q ↦ old q
             | inr q ↦
-                let g = gathered_out rows (get_or juniors k no_roles) 32 b q in
+                let g = gathered_out (rows k) (get_or juniors k no_roles) 32 b q in
                 joined (along (wider k) (ih a k t))
                 (through (and_from (ltb k (suc k)) (holds juniors k g.0) (lt-ltb k (suc k) (omega arith)) g.1) (along (wider k) (ih g.0 b g.2)))
           ]
-      goes (inr t) = old (sym (ap (λ (s : RoleSet). has s.bits b) (extended-same k below row t)) ∙ at)
+      goes (inr t) = old (sym (ap (λ (s : RoleSet). has s.bits b) (extended-same k (below k) (row k a) t)) ∙ at)
 
   held : (k : ℕ) → k ≤ 32 → Held k
   held zero le = held_none

@@ -15,7 +15,7 @@ use Rattle.policy.specs.Entries.{no_roles, no_users, holds, holds_user}
 use Rattle.policy.specs.WellFormed.{Sized, Wide, Within, Mutual, WellFormed}
 use Rattle.policy.specs.Updates.{only, bare, with_role, with_pair, with_users}
 use Rattle.policy.specs.Reading.{same, is_sizes, in_range, differ, unlimited, entered, applied}
-use Rattle.policy.proofs.Members.{roles, users, member, both, set_each, replicate_each, no_member, more_within, both_within, both_apart, both_length, both_mutual}
+use Rattle.policy.proofs.Members.{both, set_each, replicate_each, no_member, more_within, both_within, both_apart, both_length, both_mutual}
 
 -- numbers of an entry in range
 below : (a b n : ℕ) → (ltb a n && ltb b n) ≡ true → (a < n) × (b < n)
@@ -34,9 +34,9 @@ Counted s = Sized 64 s.users × Sized 32 s.roles × Sized 64 s.sessions
 abbrev Row : Counts → ℕ → List UserSet → Type 0
 Row s r row =
     (r < 32 → length row ≡ 64)
-    × ((u v : ℕ) → member users row u v ≡ true → (r < s.roles) × (u < s.users) × (v < s.users))
-    × ((u v : ℕ) → member users row u v ≡ member users row v u)
-    × ((u : ℕ) → member users row u u ≡ false)
+    × ((u v : ℕ) → holds row u v ≡ true → (r < s.roles) × (u < s.users) × (v < s.users))
+    × ((u v : ℕ) → holds row u v ≡ holds row v u)
+    × ((u : ℕ) → holds row u u ≡ false)
 
 abbrev Users : Counts → List (List UserSet) → Type 0
 Users s rows = (length rows ≡ 32) × ((r : ℕ) → Row s r (get_or rows r []))
@@ -94,8 +94,8 @@ module _ {t : Tables} (w : WellFormed t) where
 empty_pairs : (n : ℕ) → Pairs n (replicate 32 no_roles)
 empty_pairs n = (
   length-replicate 32 no_roles,
-  (λ a b t. absurd (both_ways (holds (replicate 32 no_roles) a b) (no_member roles 32 a b) t)),
-  λ a b. no_member roles 32 a b ∙ sym (no_member roles 32 b a),
+  (λ a b t. absurd (both_ways (holds (replicate 32 no_roles) a b) (no_member 32 a b) t)),
+  λ a b. no_member 32 a b ∙ sym (no_member 32 b a),
 )
 
 empty-users : (s : Counts) → Users s (replicate 32 (replicate 64 no_users))
@@ -111,8 +111,8 @@ empty-users s = (
   where
     none : (r u v : ℕ) → holds_user (replicate 32 (replicate 64 no_users)) r u v ≡ false
     none r u v =
-        replicate_each (λ row. member users row u v ≡ false) 32 (replicate 64 no_users) []
-        (no_member users 64 u v) (no_member users 0 u v) r
+        replicate_each (λ row. holds row u v ≡ false) 32 (replicate 64 no_users) []
+        (no_member 64 u v) (no_member 0 u v) r
 
 pub only_well_formed : (s : Counts) → Counted s → WellFormed (only s)
 unfolding only
@@ -122,9 +122,9 @@ only_well_formed s h = let p = empty_pairs s.roles in from_parts h p.1 p.1 p p (
 
 pair_kept : (n : ℕ) (rows : List RoleSet) (a b : ℕ) → n ≤ 32 → (a < n) × (b < n) → Pairs n rows → Pairs n (with_pair rows a b)
 pair_kept n rows a b l h p = (
-  both_length roles rows a b ∙ p.0,
-  both_within roles (λ x y. (x < n) × (y < n)) rows a b h (h.1, h.0) p.1,
-  both_mutual roles rows a b p.0 (omega arith) (omega arith) p.2,
+  both_length 32 rows a b ∙ p.0,
+  both_within 32 (λ x y. (x < n) × (y < n)) rows a b h (h.1, h.0) p.1,
+  both_mutual 32 rows a b p.0 (omega arith) (omega arith) p.2,
 )
 
 users_kept : (s : Counts) (rows : List (List UserSet)) (r u v : ℕ) → Counted s
@@ -136,16 +136,16 @@ users_kept s rows r u v z hr h ne (wide, each) =
     row = get_or rows r []
 
     new : List UserSet
-    new = both users row u v
+    new = both 64 row u v
 
     new_row : Row s r new
     new_row =
         let old : Row s r row = each r in
         let w : length row ≡ 64 = old.0 (omega arith) in (
-          (λ _. both_length users row u v ∙ w),
-          both_within users (λ x y. (r < s.roles) × (x < s.users) × (y < s.users)) row u v (hr, h.0, h.1) (hr, h.1, h.0) old.1,
-          both_mutual users row u v w (omega arith) (omega arith) old.2,
-          both_apart users row u v ne old.3,
+          (λ _. both_length 64 row u v ∙ w),
+          both_within 64 (λ x y. (r < s.roles) × (x < s.users) × (y < s.users)) row u v (hr, h.0, h.1) (hr, h.1, h.0) old.1,
+          both_mutual 64 row u v w (omega arith) (omega arith) old.2,
+          both_apart 64 row u v ne old.3,
         )
 
 pub entered_well_formed : (t : Tables) (e : Entry) → WellFormed t → in_range t.sizes e ≡ true → differ e ≡ true
@@ -160,7 +160,7 @@ entered_well_formed t (Sizes u r n) w i d =
 entered_well_formed t (Inherits a b) w i d =
     let n : ℕ = t.sizes.roles in
     let j : Within n (with_role t.hierarchy.juniors a b) =
-    more_within roles (λ x y. (x < n) × (y < n)) t.hierarchy.juniors a b (below a b n i) w.juniors_within in
+    more_within 32 (λ x y. (x < n) × (y < n)) t.hierarchy.juniors a b (below a b n i) w.juniors_within in
     from_parts (counted_of w) j w.needs_within (ssd_of w) (dsd_of w) (users_of w)
 entered_well_formed t (StaticPair a b) w i d =
     let n : ℕ = t.sizes.roles in
@@ -184,7 +184,7 @@ entered_well_formed t (Required k a b) w i d = aside w _ _
 entered_well_formed t (Dependency a b) w i d =
     let n : ℕ = t.sizes.roles in
     let k : Within n (with_role t.dependencies.needs a b) =
-    more_within roles (λ x y. (x < n) × (y < n)) t.dependencies.needs a b (below a b n i) w.needs_within in
+    more_within 32 (λ x y. (x < n) × (y < n)) t.dependencies.needs a b (below a b n i) w.needs_within in
     from_parts (counted_of w) w.juniors_within k (ssd_of w) (dsd_of w) (users_of w)
 entered_well_formed t End w i d = w
 

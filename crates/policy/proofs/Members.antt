@@ -3,32 +3,18 @@ use Rattle.std.proofs.Common.{◌≡◌, ℕ, ◌^◌, ◌<◌, Bool, true, fals
 use mathlib.Core.Bool.{or-false, and_comm, or_comm, or_assoc}
 use Rattle.std.proofs.lemmas.List.{length-set, length-replicate, get_or-set_same, get_or-set_other, get_or-replicate, get_or_past, set_past}
 use Rattle.std.proofs.lemmas.Bool.{eqb-true, eq-eqb, ne_eqb, cases_eq, cases_lt, and_parts, and_left, or_cases, or_from}
-use Rattle.sets.specs.Aliases.{RoleSet, UserSet}
+use Rattle.sets.specs.Aliases.{RoleSet}
 use Rattle.sets.specs.Sets.{has, with_member}
+use Rattle.policy.specs.Entries.{no_roles, holds}
+use Rattle.policy.specs.Updates.{with_one, with_both}
 use Rattle.sets.proofs.Laws.{has-zero, has_bit, has-union, has-with, with-within}
 
--- a kind of set: its bits, the set of some bits, and its width
-pub record Kind (X : Type 0) : Type 0 where
-  pub bits : X → ℕ
-  pub make : ℕ → X
-  pub made : (n : ℕ) → bits (make n) ≡ n
-  pub width : ℕ
+-- a row with one more member, and with a pair both ways, of sets of a width
+abbrev pub more : ℕ → List RoleSet → ℕ → ℕ → List RoleSet
+more w = with_one (λ n. n) (λ n. n) w
 
-abbrev pub roles : Kind RoleSet
-roles = record { bits = λ s. s.bits; make = λ n. record { bits = n }; made = λ n. refl; width = 32 }
-
-abbrev pub users : Kind UserSet
-users = record { bits = λ s. s.bits; make = λ n. record { bits = n }; made = λ n. refl; width = 64 }
-
--- y is in row x; the rows with b in row a too; and with the pair both ways
-abbrev pub member : {X : Type 0} → Kind X → List X → ℕ → ℕ → Bool
-member k rows x y = has (k.bits (get_or rows x (k.make 0))) y
-
-abbrev pub more : {X : Type 0} → Kind X → List X → ℕ → ℕ → List X
-more k rows a b = set rows a (k.make (with_member k.width (k.bits (get_or rows a (k.make 0))) b))
-
-abbrev pub both : {X : Type 0} → Kind X → List X → ℕ → ℕ → List X
-both k rows a b = more k (more k rows a b) b a
+abbrev pub both : ℕ → List RoleSet → ℕ → ℕ → List RoleSet
+both w = with_both (λ n. n) (λ n. n) w
 
 -- what holds at every place of a list, and of the new entry, holds at every place after the write
 pub set_each : {X : Type 0} (Q : ℕ → X → Type 0) (xs : List X) (a : ℕ) (new d : X)
@@ -48,80 +34,74 @@ replicate_each Q n x d hx hd i = elim (cases_lt i n) [
   | inr l ↦ subst Q (sym (get_or_past (replicate n x) i d (omega (arith, length-replicate n x)))) hd
 ]
 
-module _ {X : Type 0} (k : Kind X) where
-  -- empty rows have no member
-  pub no_member : (n x y : ℕ) → member k (replicate n (k.make 0)) x y ≡ false
-  no_member n x y =
-      let zero_bits : has (k.bits (k.make 0)) y ≡ false = ap (λ m. has m y) (k.made 0) ∙ has-zero y in
-      replicate_each (λ s. has (k.bits s) y ≡ false) n (k.make 0) (k.make 0) zero_bits zero_bits x
+-- empty rows have no member
+pub no_member : (n x y : ℕ) → holds (replicate n no_roles) x y ≡ false
+no_member n x y = replicate_each (λ (s : RoleSet). has s.bits y ≡ false) n no_roles no_roles (has-zero y) (has-zero y) x
 
-  -- the new row, member by member
-  new_row : (rows : List X) (a b y : ℕ)
-      → let n : ℕ = k.bits (get_or rows a (k.make 0)) in
-      has (k.bits (k.make (with_member k.width n b))) y ≡ (member k rows a y || (eqb y b && ltb y k.width))
-  new_row rows a b y =
-      let n : ℕ = k.bits (get_or rows a (k.make 0)) in
-      ap (λ m. has m y) (k.made (with_member k.width n b)) ∙ has-with k.width n b y
+module _ (w : ℕ) where
+  -- the row with one more member, and which members it has
+  abbrev one : List RoleSet → ℕ → ℕ → RoleSet
+  one rows a b = record { bits = with_member w (get_or rows a no_roles).bits b }
+
+  new_row : (rows : List RoleSet) (a b y : ℕ) → has (one rows a b).bits y ≡ (holds rows a y || (eqb y b && ltb y w))
+  new_row rows a b y = has-with w (get_or rows a no_roles).bits b y
 
   -- a relation that has all members has them after one more
-  pub more_within : (C : ℕ → ℕ → Type 0) (rows : List X) (a b : ℕ) → C a b
-      → ((x y : ℕ) → member k rows x y ≡ true → C x y) → (x y : ℕ) → member k (more k rows a b) x y ≡ true → C x y
+  pub more_within : (C : ℕ → ℕ → Type 0) (rows : List RoleSet) (a b : ℕ) → C a b
+      → ((x y : ℕ) → holds rows x y ≡ true → C x y) → (x y : ℕ) → holds (more w rows a b) x y ≡ true → C x y
   more_within C rows a b c old =
-      let n : ℕ = k.bits (get_or rows a (k.make 0)) in
-      set_each (λ x s. (y : ℕ) → has (k.bits s) y ≡ true → C x y) rows a (k.make (with_member k.width n b)) (k.make 0) old
-      (λ y t. elim (or_cases (member k rows a y) (eqb y b && ltb y k.width) (sym (new_row rows a b y) ∙ t)) [
+      set_each (λ x (s : RoleSet). (y : ℕ) → has s.bits y ≡ true → C x y) rows a (one rows a b) no_roles old
+      (λ y t. elim (or_cases (holds rows a y) (eqb y b && ltb y w) (sym (new_row rows a b y) ∙ t)) [
         | inl m ↦ old a y m
-        | inr m ↦ subst (C a) (sym (eqb-true y b (and_parts (eqb y b) (ltb y k.width) m).0)) c
+        | inr m ↦ subst (C a) (sym (eqb-true y b (and_parts (eqb y b) (ltb y w) m).0)) c
       ])
 
-  pub both_within : (C : ℕ → ℕ → Type 0) (rows : List X) (a b : ℕ) → C a b → C b a
-      → ((x y : ℕ) → member k rows x y ≡ true → C x y) → (x y : ℕ) → member k (both k rows a b) x y ≡ true → C x y
-  both_within C rows a b c d old = more_within C (more k rows a b) b a d (more_within C rows a b c old)
+  pub both_within : (C : ℕ → ℕ → Type 0) (rows : List RoleSet) (a b : ℕ) → C a b → C b a
+      → ((x y : ℕ) → holds rows x y ≡ true → C x y) → (x y : ℕ) → holds (both w rows a b) x y ≡ true → C x y
+  both_within C rows a b c d old = more_within C (more w rows a b) b a d (more_within C rows a b c old)
 
   -- nothing is in its own row after one more that differs from its row
-  more_apart : (rows : List X) (a b : ℕ) → (a ≡ b → ⊥)
-      → ((x : ℕ) → member k rows x x ≡ false) → (x : ℕ) → member k (more k rows a b) x x ≡ false
+  more_apart : (rows : List RoleSet) (a b : ℕ) → (a ≡ b → ⊥)
+      → ((x : ℕ) → holds rows x x ≡ false) → (x : ℕ) → holds (more w rows a b) x x ≡ false
   more_apart rows a b ne old =
-      let n : ℕ = k.bits (get_or rows a (k.make 0)) in
-      set_each (λ x s. has (k.bits s) x ≡ false) rows a (k.make (with_member k.width n b)) (k.make 0) old
-      (new_row rows a b a ∙ or_from (member k rows a a) (eqb a b && ltb a k.width) (old a)
-      (and_left (eqb a b) (ltb a k.width) (ne_eqb a b ne)))
+      set_each (λ x (s : RoleSet). has s.bits x ≡ false) rows a (one rows a b) no_roles old
+      (new_row rows a b a ∙ or_from (holds rows a a) (eqb a b && ltb a w) (old a)
+      (and_left (eqb a b) (ltb a w) (ne_eqb a b ne)))
 
-  pub both_apart : (rows : List X) (a b : ℕ) → (a ≡ b → ⊥)
-      → ((x : ℕ) → member k rows x x ≡ false) → (x : ℕ) → member k (both k rows a b) x x ≡ false
-  both_apart rows a b ne old = more_apart (more k rows a b) b a (λ e. ne (sym e)) (more_apart rows a b ne old)
+  pub both_apart : (rows : List RoleSet) (a b : ℕ) → (a ≡ b → ⊥)
+      → ((x : ℕ) → holds rows x x ≡ false) → (x : ℕ) → holds (both w rows a b) x x ≡ false
+  both_apart rows a b ne old = more_apart (more w rows a b) b a (λ e. ne (sym e)) (more_apart rows a b ne old)
 
   -- the rows keep their number
-  pub both_length : (rows : List X) (a b : ℕ) → length (both k rows a b) ≡ length rows
+  pub both_length : (rows : List RoleSet) (a b : ℕ) → length (both w rows a b) ≡ length rows
   both_length rows a b = simp length-set
 
   -- in range, one more is exactly one more
-  pub more_member : (rows : List X) (a b : ℕ) → a < length rows → b < k.width
-      → (x y : ℕ) → member k (more k rows a b) x y ≡ (member k rows x y || (eqb x a && eqb y b))
+  pub more_member : (rows : List RoleSet) (a b : ℕ) → a < length rows → b < w
+      → (x y : ℕ) → holds (more w rows a b) x y ≡ (holds rows x y || (eqb x a && eqb y b))
   more_member rows a b ha hb x y =
-      let n : ℕ = k.bits (get_or rows a (k.make 0)) in
-      let new : X = k.make (with_member k.width n b) in
+      let n : ℕ = (get_or rows a no_roles).bits in
       elim (cases_eq x a) [
-        | inl e ↦ subst (λ i. member k (more k rows a b) i y ≡ (member k rows i y || (eqb i a && eqb y b))) (sym e)
-            (ap (λ s. has (k.bits s) y) (get_or-set_same rows a new (k.make 0) ha)
-            ∙ ap (λ m. has m y) (k.made (with_member k.width n b) ∙ with-within k.width n b hb)
+        | inl e ↦ subst (λ i. holds (more w rows a b) i y ≡ (holds rows i y || (eqb i a && eqb y b))) (sym e)
+            (ap (λ (s : RoleSet). has s.bits y) (get_or-set_same rows a (one rows a b) no_roles ha)
+            ∙ ap (λ m. has m y) (with-within w n b hb)
             ∙ has-union n (2 ^ b) y
             ∙ ap (λ t. has n y || t) (has_bit b y ∙ ap (λ t. t && eqb y b) (sym (eq-eqb a a refl))))
-        | inr ne ↦ ap (λ s. has (k.bits s) y) (get_or-set_other rows a x new (k.make 0) ne) ∙ sym (or-false (member k rows x y))
-            ∙ ap (λ t. member k rows x y || (t && eqb y b)) (sym (ne_eqb x a ne))
+        | inr ne ↦ ap (λ (s : RoleSet). has s.bits y) (get_or-set_other rows a x (one rows a b) no_roles ne) ∙ sym (or-false (holds rows x y))
+            ∙ ap (λ t. holds rows x y || (t && eqb y b)) (sym (ne_eqb x a ne))
       ]
 
   -- a pair stored both ways keeps the rows mutual
-  pub both_mutual : (rows : List X) (a b : ℕ) → length rows ≡ k.width → a < k.width → b < k.width
-      → ((x y : ℕ) → member k rows x y ≡ member k rows y x)
-      → (x y : ℕ) → member k (both k rows a b) x y ≡ member k (both k rows a b) y x
+  pub both_mutual : (rows : List RoleSet) (a b : ℕ) → length rows ≡ w → a < w → b < w
+      → ((x y : ℕ) → holds rows x y ≡ holds rows y x)
+      → (x y : ℕ) → holds (both w rows a b) x y ≡ holds (both w rows a b) y x
   both_mutual rows a b wide ha hb old x y =
-      pair x y ∙ swapped (member k rows x y) (eqb x a) (eqb y b) (eqb x b) (eqb y a)
+      pair x y ∙ swapped (holds rows x y) (eqb x a) (eqb y b) (eqb x b) (eqb y a)
       ∙ ap (λ m. m || (eqb y a && eqb x b) || (eqb y b && eqb x a)) (old x y) ∙ sym (pair y x)
     where
-      pair : (x y : ℕ) → member k (both k rows a b) x y ≡ (member k rows x y || (eqb x a && eqb y b) || (eqb x b && eqb y a))
+      pair : (x y : ℕ) → holds (both w rows a b) x y ≡ (holds rows x y || (eqb x a && eqb y b) || (eqb x b && eqb y a))
       pair x y =
-          more_member (more k rows a b) b a (simp length-set (omega arith)) ha x y
+          more_member (more w rows a b) b a (simp length-set (omega arith)) ha x y
           ∙ ap (λ m. m || (eqb x b && eqb y a)) (more_member rows a b (omega arith) hb x y)
 
       swapped : (m p q s t : Bool) → (m || (p && q) || (s && t)) ≡ (m || (t && s) || (q && p))

@@ -36,10 +36,7 @@ pub(crate) struct Questions<'a> {
 fn refuse(found: Option<Failure>) -> Verdict
     ensures { result ≡ settled found (Ok tt) }
 {
-    match found {
-        Some(failure) => Err(failure),
-        None => Ok(()),
-    }
+    found.map_or(Ok(()), Err)
 }
 
 impl Questions<'_> {

@@ -208,6 +208,7 @@ fn read_tables(bytes: &[u8]) -> Result<(Tables, usize), Fault>
     loop {
         let (entry, tail) = take::<Entry>(rest, at)?;
         apply(&mut tables, entry, at)?;
+        // Kept: the place counts the bytes of records of unlike lengths, which no iterator over records counts.
         at += rest.len() - tail.len();
         if is_end(entry) {
             return Ok((tables, at));

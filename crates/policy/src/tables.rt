@@ -13,6 +13,7 @@ pub struct Sizes {
     pub sessions: u8,
 }
 
+// Kept: tables alike in shape are types of their own, so that none is passed for another; they share `at_or`.
 // The role hierarchy as written: for each role, those that it inherits directly.
 #[derive(Clone, Copy)]
 pub struct Hierarchy {
