@@ -1,3 +1,4 @@
+pub mod Asking
 pub mod Entries
 pub mod Seniority
 pub mod Verdicts

@@ -2,6 +2,7 @@
 #![tactic(auto)]
 
 pub mod approved;
+pub mod asking;
 pub mod check;
 pub mod checked;
 pub mod draft;

@@ -1,10 +1,11 @@
 // The five questions, each a search for its lowest witness.
-ghost use Rattle.std.specs.Prelude.{◌≡◌, ◌<◌, Ok, nat_lt};
+ghost use Rattle.std.specs.Prelude.{◌≡◌, ◌<◌, nat_lt};
 ghost use Rattle.sets.specs.First.{first_of};
 ghost use Rattle.policy.specs.Questions.{Vetted};
 ghost use Rattle.policy.specs.Seniority.{closure};
-ghost use Rattle.policy.specs.Search.{cycle_at, cycle_found, self_conflict_at, self_conflict_found, lost_conflict, lost_conflict_found, both_conflicts_at, both_conflicts_found, lost_user_at, lost_users_at, lost_users_found, settled, verdict};
+ghost use Rattle.policy.specs.Search.{cycle_at, cycle_found, self_conflict_at, self_conflict_found, lost_conflict, lost_conflict_found, both_conflicts_at, both_conflicts_found, lost_user_at, lost_users_at, lost_users_found, verdict};
 
+use crate::asking::none_of;
 use crate::draft::Draft;
 use crate::seniority::Seniority;
 use crate::tables::Tables;
@@ -32,23 +33,16 @@ pub(crate) struct Questions<'a> {
     ghost closed: { seniority.now.rows ≡ closure tables.now.hierarchy.juniors },
 }
 
-// The verdict of one question: a failure that was found refuses the policy.
-fn refuse(found: Option<Failure>) -> Verdict
-    ensures { result ≡ settled found (Ok tt) }
-{
-    found.map_or(Ok(()), Err)
-}
-
 impl Questions<'_> {
     // The five questions in their order.
     pub(crate) fn vet(&self) -> Verdict
         ensures { result ≡ verdict self.now.tables.now }
     {
-        refuse(self.find_cycle())?;
-        refuse(self.find_self_conflict())?;
-        refuse(self.find_lost_conflict())?;
-        refuse(self.find_both_conflicts())?;
-        refuse(self.find_lost_users())
+        none_of(self.find_cycle())?;
+        none_of(self.find_self_conflict())?;
+        none_of(self.find_lost_conflict())?;
+        none_of(self.find_both_conflicts())?;
+        none_of(self.find_lost_users())
     }
 
     // Two different roles that are each senior to the other, the lower first.

@@ -12,7 +12,7 @@ pub fn at_or<T: Copy>(rows: &[T], at: u8, or: T) -> T
 }
 
 // Writes the entry at a place; past the end it writes nothing.
-pub(crate) fn put<T: Copy>(rows: &mut [T], at: u8, entry: T)
+pub fn put<T: Copy>(rows: &mut [T], at: u8, entry: T)
     ensures { rows.new ≡ slice_set rows.old at entry }
 {
     let at = usize::from(at);
