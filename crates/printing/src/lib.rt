@@ -1,7 +1,6 @@
 // How a program's input reaches its roll, and the roll its output.
 #![tactic(auto)]
 
-pub mod cases;
 pub mod input;
 #[cfg(test)]
 mod tests;

@@ -1,4 +1,4 @@
--- The whole roll of an input, as text. Assumes nothing.
+-- The roll of an input's policy alone, as text. Assumes nothing.
 use Rattle.std.specs.Prelude.{cond, List, ℕ, ◌++◌, length, codes, nat_lt, Result}
 use Rattle.records.specs.declared.fault.Fault.{Fault}
 use Rattle.policy.specs.Reading.{reading}

@@ -4,7 +4,11 @@ use Rattle.records.specs.declared.fault.Fault.{Fault}
 use Rattle.records.specs.Faults as faults
 use Rattle.policy.specs.Verdicts.{number_of, names_of}
 use Rattle.monitor.specs.declared.row.Row.{Row}
+use Rattle.monitor.specs.declared.run.Outcome.{Outcome}
+use Rattle.monitor.specs.Scripts.{end_number}
 use Rattle.report.specs.declared.judging.Judged.{Judged}
+use Rattle.report.specs.declared.line.PolicyLine.{PolicyLine}
+use Rattle.report.specs.declared.line.EndLine.{EndLine}
 
 -- `policy`, number, place or bytes read, four names
 abbrev pub policy_text : ℕ → ℕ → List ℕ → List ℕ
@@ -13,9 +17,12 @@ policy_text number figure names =
     ++ (codes " " ++ (decimal (slice_index names 1) ++ (codes " " ++ (decimal (slice_index names 2) ++ (codes " " ++ decimal (slice_index names 3)))))))))))
 
 -- a fault with its place, or the verdict with the bytes read
+abbrev pub policy_line : Result Judged Fault → PolicyLine
+policy_line (Err f) = record { number = faults.number_of f; figure = faults.place_of f; names = 0 ∷ 0 ∷ 0 ∷ 0 ∷ [] }
+policy_line (Ok j) = record { number = number_of j.verdict; figure = j.bytes; names = names_of j.verdict }
+
 abbrev pub judged_text : Result Judged Fault → List ℕ
-judged_text (Err f) = policy_text (faults.number_of f) (faults.place_of f) (0 ∷ 0 ∷ 0 ∷ 0 ∷ [])
-judged_text (Ok j) = policy_text (number_of j.verdict) j.bytes (names_of j.verdict)
+judged_text judged = policy_text (policy_line judged).number (policy_line judged).figure (policy_line judged).names
 
 -- index, kind, number, subject, place, roles
 abbrev pub row_text : ℕ → Row → List ℕ
@@ -26,3 +33,6 @@ row_text index row =
 -- `end`, rows, bytes of their events, number
 abbrev pub end_text : ℕ → ℕ → ℕ → List ℕ
 end_text rows bytes number = codes "end " ++ (decimal rows ++ (codes " " ++ (decimal bytes ++ (codes " " ++ decimal number))))
+
+abbrev pub end_line : Outcome → EndLine
+end_line o = record { rows = o.rows; bytes = o.bytes; number = end_number o.end }

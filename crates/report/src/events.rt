@@ -38,6 +38,7 @@ pub(crate) fn write_events<P: Rule>(
 {
     let mut rows = [Row::default(); ROWS];
     let mut rest = bytes;
+    // Kept: the sum of the rows of all runs, and no index: each run counts its own.
     let mut count = 0;
     loop {
         let outcome = run(monitor, rest, &mut rows);
@@ -50,7 +51,8 @@ pub(crate) fn write_events<P: Rule>(
                 bytes: bytes.len() - rest.len(),
                 end: outcome.end,
             };
-            writeln!(text, "{}", EndLine { total })?;
+            let line = EndLine::from(total);
+            writeln!(text, "{line}")?;
             return Ok(());
         }
     }

@@ -1,6 +1,5 @@
-ghost use Rattle.std.specs.Prelude.{Some};
-ghost use Rattle.report.specs.Texts.{judged_text, row_text, end_text};
-ghost use Rattle.monitor.specs.Scripts.{end_number};
+ghost use Rattle.std.specs.Prelude.{◌≡◌, Some};
+ghost use Rattle.report.specs.Texts.{policy_line, end_line, policy_text, row_text, end_text};
 
 use crate::judging::Judged;
 use monitor::row::Row;
@@ -10,23 +9,40 @@ use records::fault::Fault;
 use std::fmt;
 
 // What the first line of the roll says: the number of the fault or verdict, its place or else the bytes read, four names.
+// Kept: these numbers are the written form of what was judged, which the format fixes.
 #[derive(Clone, Copy)]
 pub struct PolicyLine {
-    pub judged: Result<Judged, Fault>,
+    pub number: u8,
+    pub figure: usize,
+    pub names: [u8; 4],
+}
+
+impl From<Result<Judged, Fault>> for PolicyLine {
+    ghost from_gives = { λ judged line. line ≡ policy_line judged };
+
+    fn from(judged: Result<Judged, Fault>) -> PolicyLine {
+        match judged {
+            Ok(Judged { bytes, verdict }) => PolicyLine {
+                number: verdict::number(verdict),
+                figure: bytes,
+                names: verdict::names(verdict),
+            },
+            Err(fault) => PolicyLine {
+                number: fault.number(),
+                figure: fault.place(),
+                names: [0, 0, 0, 0],
+            },
+        }
+    }
 }
 
 impl fmt::Display for PolicyLine {
-    ghost output = { λ x. Some (judged_text x.judged) };
+    ghost output = { λ x. Some (policy_text x.number x.figure x.names) };
 
     fn fmt<W: fmt::Write>(&self, f: &mut fmt::Formatter<W>) -> fmt::Result {
-        let (number, figure, [a, b, c, d]) = match self.judged {
-            Ok(Judged { bytes, verdict }) => (
-                verdict::number(verdict),
-                bytes,
-                verdict::names(verdict),
-            ),
-            Err(fault) => (fault.number(), fault.place(), [0, 0, 0, 0]),
-        };
+        let number = self.number;
+        let figure = self.figure;
+        let [a, b, c, d] = self.names;
         write!(f, "policy {number} {figure} {a} {b} {c} {d}")
     }
 }
@@ -56,17 +72,33 @@ impl fmt::Display for RowLine {
 }
 
 // The last line of the roll: how many rows, the bytes of their events, and the number of the end.
+// Kept: these numbers are the written form of an outcome, which the format fixes.
 #[derive(Clone, Copy)]
 pub struct EndLine {
-    pub total: Outcome,
+    pub rows: usize,
+    pub bytes: usize,
+    pub number: u8,
+}
+
+impl From<Outcome> for EndLine {
+    ghost from_gives = { λ total line. line ≡ end_line total };
+
+    fn from(total: Outcome) -> EndLine {
+        EndLine {
+            rows: total.rows,
+            bytes: total.bytes,
+            number: total.number(),
+        }
+    }
 }
 
 impl fmt::Display for EndLine {
-    ghost output = { λ x. Some (end_text x.total.rows x.total.bytes (end_number x.total.end)) };
+    ghost output = { λ x. Some (end_text x.rows x.bytes x.number) };
 
     fn fmt<W: fmt::Write>(&self, f: &mut fmt::Formatter<W>) -> fmt::Result {
-        let Outcome { rows, bytes, .. } = self.total;
-        let number = self.total.number();
+        let rows = self.rows;
+        let bytes = self.bytes;
+        let number = self.number;
         write!(f, "end {rows} {bytes} {number}")
     }
 }

@@ -17,8 +17,6 @@ pub fn roll(heap: Global, bytes: &[u8]) -> Result<String, AllocError>
         return String::from_str(heap, "input 9\n");
     }
     let mut held = Checked::bare();
-    let line = PolicyLine {
-        judged: judge(&mut held, bytes),
-    };
+    let line = PolicyLine::from(judge(&mut held, bytes));
     format!(in heap; "{line}\n")
 }

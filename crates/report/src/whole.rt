@@ -31,7 +31,8 @@ pub fn whole_roll_by<P: Rule + Drop>(
     }
     let mut held = Checked::bare();
     let judged = judge(&mut held, bytes);
-    writeln!(text, "{}", PolicyLine { judged })?;
+    let line = PolicyLine::from(judged);
+    writeln!(text, "{line}")?;
     let Ok(policy) = judged else {
         return Ok(text);
     };

@@ -1,4 +1,7 @@
-use Rattle.std.proofs.Common.{◌≡◌, ◌++◌, length, drop, refl, ◌∙◌, subst₂, arith}
+use Rattle.std.proofs.Common.{◌≡◌, ◌++◌, length, drop, refl, ap, ◌∙◌, subst₂, arith}
+use Rattle.std.specs.Prelude.{codes, string_bytes}
+use Rattle.report.specs.declared.line.EndLine.{EndLine}
+use Rattle.report.specs.Texts.{end_text}
 use Rattle.monitor.specs.History.{replies, after}
 use Rattle.monitor.specs.Rows.{rows_of}
 use Rattle.monitor.specs.Scripts.{script_of}
@@ -53,4 +56,5 @@ returns-then-ne g c =
     c.run-outcome.new.monitor.ledger.state.cells
     (subst₂ (λ x p. c.run-outcome.new.monitor.ledger.state.cells ≡ after (g.P.Rule.rules x) p.draft.tables before es) same-pile same-policy is.state)
     (wants_none c.run-outcome.result.end c.ne.ensures c.if-ne.true)
-    _ refl _ (c.in_ok-writeln.ensures.bytes)
+    _ refl _ (c.in_ok-writeln.ensures.bytes
+    ∙ ap (λ (l : EndLine). string_bytes c.write_rows.new.text ++ (end_text l.rows l.bytes l.number ++ codes "\n")) c.from-line.ensures)

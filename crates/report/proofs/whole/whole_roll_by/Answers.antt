@@ -1,5 +1,8 @@
 use Rattle.std.proofs.Common.{◌-◌, ◌++◌, length, take, drop, ap, ◌∙◌}
+use Rattle.std.specs.Prelude.{codes, string_bytes}
+use Rattle.report.specs.declared.line.PolicyLine.{PolicyLine}
 use Rattle.report.specs.Roll.{line_text}
+use Rattle.report.specs.Texts.{policy_text}
 use Rattle.report.specs.Whole.{events_text}
 use Rattle.report.proofs.Resting.{roll_passed, rests}
 use Rattle.report.proofs.whole.whole_roll_by.Goals as goal
@@ -10,7 +13,8 @@ returns-clause-text g c =
     let m = c.begin-monitor.result in
     let count = c.in-Ok.policy.bytes in
     let events = take (length c.args.bytes.now - count) (drop count c.args.bytes.now) in
-    let first = c.in_ok-writeln-2.ensures.bytes ∙ ap (λ text. text ++ line_text c.judge-judged.result) c.new-text.ensures.bytes in
+    let line = ap (λ (l : PolicyLine). string_bytes c.new-text.result ++ (policy_text l.number l.figure l.names ++ codes "\n")) c.from-line.ensures in
+    let first = c.in_ok-writeln-2.ensures.bytes ∙ line ∙ ap (λ text. text ++ line_text c.judge-judged.result) c.new-text.ensures.bytes in
     roll_passed ms c.args.bytes.now c.judge-judged.result c.in-Ok.policy _ m.ledger.policy.draft.tables m.ledger.state.cells _ c.if-bytes-gt-MOST.false
     c.judge-judged.ensures.answer c.in-Ok.is c.is_err.ensures.value c.if-is_err.false
     (ap (λ p. p.draft.tables) c.begin-monitor.ensures.policy ∙ c.judge-judged.ensures.policy) c.begin-monitor.ensures.state
