@@ -1,5 +1,5 @@
 -- One turn of reading: a fault, the end record, or a record entered.
-use Rattle.std.proofs.Common.{◌≡◌, ℕ, zero, suc, ◌+◌, ◌-◌, ◌<◌, Bool, true, false, cond, List, length, Ok, Err, Result, sym, refl, ap, ◌∙◌, arith}
+use Rattle.std.proofs.Common.{◌≡◌, ℕ, zero, suc, ◌+◌, ◌-◌, ◌<◌, Bool, true, false, cond, List, length, Ok, Err, Result, sym, refl, ap, subst, ◌∙◌, arith}
 use Rattle.std.proofs.lemmas.Bool.{cond-true, cond-false}
 use Rattle.records.specs.Parts.{Taken, then}
 use Rattle.records.specs.Entries.{entry_taken}
@@ -45,16 +45,17 @@ module _ (t : Tables) (s : List ℕ) (at : ℕ) (out : Read) (x : Entry) (tail :
   pub refused : (f : Fault) → applied t x at ≡ Err f → Err f ≡ out
   refused f a = asked (Err f) a
 
-  pub ended : (u : Tables) → applied t x at ≡ Ok u → true ≡ is_end x → Ok (u, at + (length s - length tail)) ≡ out
-  ended u a h = sym (cond-true (is_end x) (Ok (u, at + (length s - length tail))) (read_from l.k u tail (at + (length s - length tail))) (sym h)) ∙ asked (Ok u) a
+  -- the place after the record, however it is counted
+  module _ (next : ℕ) (counted : at + (length s - length tail) ≡ next) where
+    placed : (u : Tables) → applied t x at ≡ Ok u → goes_on l.k x tail next u ≡ out
+    placed u a = subst (λ (n : ℕ). goes_on l.k x tail n u ≡ out) counted (asked (Ok u) a)
 
-  pub turned : (u : Tables) → applied t x at ≡ Ok u → false ≡ is_end x → length tail < length s
-      → (k : ℕ) × (length tail < k) × (read_from k u tail (at + (length s - length tail)) ≡ out)
-  turned u a h lt = (
-    l.k,
-    omega (arith, l.enough),
-    sym (cond-false (is_end x) (Ok (u, at + (length s - length tail))) (read_from l.k u tail (at + (length s - length tail))) (sym h)) ∙ asked (Ok u) a,
-  )
+    pub ended : (u : Tables) → applied t x at ≡ Ok u → true ≡ is_end x → Ok (u, next) ≡ out
+    ended u a h = sym (cond-true (is_end x) (Ok (u, next)) (read_from l.k u tail next) (sym h)) ∙ placed u a
+
+    pub turned : (u : Tables) → applied t x at ≡ Ok u → false ≡ is_end x → length tail < length s
+        → (k : ℕ) × (length tail < k) × (read_from k u tail next ≡ out)
+    turned u a h lt = (l.k, omega (arith, l.enough), sym (cond-false (is_end x) (Ok (u, next)) (read_from l.k u tail next) (sym h)) ∙ placed u a)
 
 -- what is read is well formed
 then_well_formed : (k : ℕ) (t : Tables) (x : Entry) (tail : List ℕ) (at next : ℕ) → WellFormed t

@@ -33,6 +33,7 @@ pub(crate) struct Questions<'a> {
     ghost closed: { seniority.now.rows ≡ closure tables.now.hierarchy.juniors },
 }
 
+// Kept: the searches answer the failure that they find, as the closures of `find_map` must; `none_of` makes a verdict of it.
 impl Questions<'_> {
     // The five questions in their order.
     pub(crate) fn vet(&self) -> Verdict

@@ -26,14 +26,14 @@ const ONE_EACH: Sizes = Sizes {
 fn only(sizes: Sizes) -> Tables
     ensures { result ≡ only sizes }
 {
-    let no_roles = [RoleSet { bits: 0 }; 32];
+    let no_roles = [RoleSet::empty(); 32];
     Tables {
         sizes,
         hierarchy: Hierarchy { juniors: no_roles },
         ssd: RoleConflicts { partners: no_roles },
         dsd: RoleConflicts { partners: no_roles },
         conflicting: UserConflicts {
-            partners: [[UserSet { bits: 0 }; 64]; 32],
+            partners: [[UserSet::empty(); 64]; 32],
         },
         limits: Limits {
             users: [None; 32],
@@ -69,11 +69,7 @@ fn in_range(sizes: Sizes, entry: Entry) -> bool
             users,
             roles,
             sessions,
-        } => {
-            (1 <= users && users <= 64)
-                && (1 <= roles && roles <= 32)
-                && (1 <= sessions && sessions <= 64)
-        }
+        } => { matches!(users, 1..=64) && matches!(roles, 1..=32) && matches!(sessions, 1..=64) }
         Entry::Inherits { senior, junior } => senior < sizes.roles && junior < sizes.roles,
         Entry::StaticPair { first, second } | Entry::DynamicPair { first, second } => {
             first < sizes.roles && second < sizes.roles
@@ -87,11 +83,12 @@ fn in_range(sizes: Sizes, entry: Entry) -> bool
             < sizes.roles,
         Entry::LimitOfUserRoles { user, .. } | Entry::LimitOfUserActive { user, .. } => user
             < sizes.users,
+        // Kept: a condition out of range is a later question than the kind, so the entry carries each number as it stands in the bytes.
         Entry::Required {
             condition,
             role,
             required,
-        } => { (1 <= condition && condition <= 6) && role < sizes.roles && required < sizes.roles }
+        } => { matches!(condition, 1..=6) && role < sizes.roles && required < sizes.roles }
         Entry::Dependency { role, needs } => role < sizes.roles && needs < sizes.roles,
         Entry::End => true,
     }
@@ -196,6 +193,7 @@ fn apply(tables: &mut Tables, entry: Entry, at: usize) -> Result<(), Fault>
     Ok(())
 }
 
+// Kept: that no more bytes are read than there are ties an answer to an argument, which no type carries.
 // The tables read from the bytes and how many bytes that took, or the first fault.
 fn read_tables(bytes: &[u8]) -> Result<(Tables, usize), Fault>
     ensures answer { result ≡ reading bytes.now }
@@ -204,14 +202,12 @@ fn read_tables(bytes: &[u8]) -> Result<(Tables, usize), Fault>
 {
     let mut tables = only(ONE_EACH);
     let mut rest = bytes;
-    let mut at = 0;
     loop {
+        let at = bytes.len() - rest.len();
         let (entry, tail) = take::<Entry>(rest, at)?;
         apply(&mut tables, entry, at)?;
-        // Kept: the place counts the bytes of records of unlike lengths, which no iterator over records counts.
-        at += rest.len() - tail.len();
         if is_end(entry) {
-            return Ok((tables, at));
+            return Ok((tables, bytes.len() - tail.len()));
         }
         rest = tail;
     }

@@ -61,6 +61,7 @@ impl UserConflicts {
     }
 }
 
+// Kept: fixed memory is a rule of the project, so each table has an entry for every number, beside the sizes; each is asked by itself.
 // The four limits; none where no record set one.
 #[derive(Clone, Copy)]
 pub struct Limits {

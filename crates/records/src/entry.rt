@@ -46,6 +46,7 @@ pub enum Entry {
         limit: u8,
     },
     Required {
+        // Kept: a condition out of range is a later question than the kind, so the entry carries each number as it stands in the bytes.
         condition: u8,
         role: u8,
         required: u8,

@@ -19,6 +19,7 @@ pub enum Event {
 }
 
 impl Event {
+    // Kept: a row writes the byte; here and in `decode` alone does a kind become its number and back.
     // The kind of the record that asks for it.
     pub fn kind(self) -> u8
         ensures { result ≡ kind_of self }

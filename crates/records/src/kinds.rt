@@ -9,6 +9,7 @@ pub enum Reader {
 }
 
 impl Reader {
+    // Kept: the kind is the byte that indexes the table; what it means is said by `decode` alone.
     // Whether a record of this kind is one that the reader takes.
     pub fn takes(self, kind: u8) -> bool
         ensures { result ≡ reads self kind }
@@ -20,6 +21,7 @@ impl Reader {
     }
 }
 
+// Kept: the project fixes one const table of 256 entries, indexed by the kind byte.
 // The body length of each kind of record, and none where the kind is unknown: the policy has kinds 1 to 12, the events 32 to 39.
 // By reference, so that no call builds it.
 #[rattlefmt::skip]

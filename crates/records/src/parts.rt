@@ -4,6 +4,7 @@ ghost use Rattle.records.specs.Parts.{TakenApart};
 use crate::fault::Fault;
 use crate::kinds::{Reader, body_length};
 
+// Kept: the bytes and their place stay apart: the project hands the rest on as a slice, and only the caller knows its place.
 // The record at the front taken apart into its kind, its body and the bytes after it; `at` is its place.
 pub fn take_apart(bytes: &[u8], at: usize, reader: Reader) -> Result<(u8, &[u8], &[u8]), Fault>
     ensures value { TakenApart reader bytes.now at result }

@@ -14,6 +14,7 @@ pub trait Record: Sized {
 
     const READER: Reader;
 
+    // Kept: the kind is a byte, as the project fixes slice patterns on kind and body; `decode` is the one place where it becomes a record.
     // The record of a kind and its body, or none where they are of no such record.
     fn decode(kind: u8, body: &[u8]) -> Option<Self>
         ensures { result ≡ decoded kind body.now };

@@ -7,7 +7,7 @@ use crate::words::Word;
 // A set of roles: role r is a member where bit r is set.
 pub type RoleSet = BitSet<u32>;
 
-// Kept: the bodies are operations of u32's own, which a body shared with u64 could only name through this trait again.
+// Kept: num_traits states these operations over integers that may be negative, with premises that every clause of a set would carry.
 impl Word for u32 {
     ghost width = { 32 };
 

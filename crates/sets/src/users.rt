@@ -7,7 +7,7 @@ use crate::words::Word;
 // A set of users: user r is a member where bit r is set.
 pub type UserSet = BitSet<u64>;
 
-// Kept: the bodies are operations of u64's own, which a body shared with u32 could only name through this trait again.
+// Kept: num_traits states these operations over integers that may be negative, with premises that every clause of a set would carry.
 impl Word for u64 {
     ghost width = { 64 };
 

@@ -26,6 +26,7 @@ pub trait Word: Copy {
     fn or(self, other: Self) -> Self
         ensures { result ≡ word (bit_or (value self) (value other)) };
 
+    // Kept: in a law a u32 is any number, so a method has to say of the word it is given that its number is below 2 ^ width.
     fn and(self, other: Self) -> Self
         ensures value { result ≡ word (bit_and (value self) (value other)) }
         ensures within { value self < 2 ^ width };
