@@ -1,5 +1,5 @@
--- Separation keeps its laws, and is exact. This is where the policy's questions on seniors and on self-conflicts are used.
--- It proves, for the law of the family, and assumes nothing.
+-- Separation keeps its laws, and is exact. It proves, for the law of the family, and assumes nothing.
+-- This is where the policy's questions on seniors and on self-conflicts are used.
 use Rattle.std.specs.Prelude.{◌≡◌, ℕ, ◌<◌, true, false, ◌&&◌, ◌⊎◌, get_or, None, ◌≢◌, slice_index_or, slice_set, refl}
 use Rattle.std.proofs.Common.{sym, ap, subst, ◌∙◌, inl, inr, arith}
 use Rattle.std.specs.Option.{option_map}

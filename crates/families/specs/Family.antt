@@ -1,9 +1,8 @@
 -- The meaning of a family of rules, from the states that it allows and the first of its questions that an event fails. Assumes nothing.
-use Rattle.std.specs.Prelude.{◌≡◌, ℕ, Bool, true, not, is_some, Some, None, Option, Ok, Err, Result}
+use Rattle.std.specs.Prelude.{◌≡◌, ℕ, Bool, true, not, is_some, Some, None, Option}
 use Rattle.sets.specs.Sets.{has}
 use Rattle.records.specs.declared.event.Event.{Event}
 use Rattle.policy.specs.declared.tables.Tables.{Tables}
-use Rattle.monitor.specs.declared.answer.Reason.{Reason}
 use Rattle.monitor.specs.declared.cells.Cells.{Cells}
 use Rattle.monitor.specs.declared.cells.Whose.{Whose}
 use Rattle.monitor.specs.Authority.{Fits}
@@ -20,15 +19,6 @@ active_for c w r = has (active_in w c.sessions) r
 abbrev pub told : {X : Type 0} → (X → ℕ) → ℕ → Option X → ℕ
 told f d None = d
 told f d (Some x) = f x
-
--- the answer of code that asks the questions: no breach, or the first one
-abbrev pub clear_of : {X : Type 0} → Option X → Result (Unit {0}) X
-clear_of None = Ok tt
-clear_of (Some x) = Err x
-
--- the reason that a rule by itself names
-abbrev pub at_top : ℕ → ℕ → Reason
-at_top number subject = record { number = number; subject = subject; place = 1 }
 
 -- it admits what breaches none of its questions; d is the number of the first one
 abbrev pub family : {X : Type 0} → (Tables → Cells → Type 0) → (Tables → Cells → Event → Option X) → (X → ℕ) → (X → ℕ) → ℕ → Meaning

@@ -1,5 +1,5 @@
--- Precedence: all that a role requires stands before the role is enabled, assigned or activated. Every state is allowed:
--- a role stays so when what it required goes. Assumes nothing.
+-- Precedence: all that a role requires stands before the role is enabled, assigned or activated. Assumes nothing.
+-- Every state is allowed: a role stays so when what it required goes.
 --   required_set, required   the roles that a role requires, by the condition under which they stand
 --   lacking                  the lowest required role that does not stand
 --   assigned_in              the roles assigned to some user

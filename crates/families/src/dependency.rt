@@ -4,17 +4,19 @@ ghost use Rattle.std.specs.Option.{option_map};
 ghost use Rattle.sets.specs.First.{first_below};
 ghost use Rattle.sets.specs.Sets.{has};
 ghost use Rattle.policy.specs.Seniority.{gathered};
+ghost use Rattle.policy.specs.Asking.{ok_unless};
+ghost use Rattle.monitor.specs.Answers.{at_top};
 ghost use Rattle.monitor.specs.Effect.{put_session};
 ghost use Rattle.families.specs.Dependency.{dependency, unmet_by, unmet_number, unmet_subject, missing, unmet};
-ghost use Rattle.families.specs.Family.{Exact, clear_of, at_top};
+ghost use Rattle.families.specs.Family.{Exact};
 ghost use Rattle.families.specs.Leaning.{dependency_law};
 ghost use Rattle.std.proofs.Common.{rules};
 
-use crate::family::{at_top, none_of};
 use monitor::answer::Reason;
 use monitor::asked::Asked;
 use monitor::cells::Session;
 use monitor::rule::Rule;
+use policy::asking::none_of;
 use policy::seniority::gather;
 use policy::tables::Tables;
 use records::event::Event;
@@ -46,11 +48,12 @@ impl Unmet {
     }
 }
 
+// Kept: an impl for each family is what the trait asks, and the gate refuses impls that a macro of our own makes.
 impl From<Unmet> for Reason {
     ghost from_gives = { λ unmet reason. reason ≡ at_top (unmet_number unmet) (unmet_subject unmet) };
 
     fn from(unmet: Unmet) -> Reason {
-        at_top(unmet.number(), unmet.subject())
+        Reason::at_top(unmet.number(), unmet.subject())
     }
 }
 
@@ -65,7 +68,7 @@ fn lowest_missing(tables: &Tables, active: RoleSet) -> Option<u8>
 
 // Passes where nothing is missing once another session stands in the place of one.
 fn met_after(asked: Asked, session: u8, changed: Session) -> Result<(), Unmet>
-    ensures { result ≡ clear_of (option_map unmet (missing asked.entry.policy.now.draft.tables (put_session asked.entry.state.now.cells session changed))) }
+    ensures { result ≡ ok_unless (option_map unmet (missing asked.entry.policy.now.draft.tables (put_session asked.entry.state.now.cells session changed))) }
 {
     let active = asked.state.active_after(session, changed);
     none_of(lowest_missing(&asked.policy.draft.tables, active)).map_err(|role| Unmet::NotActive {
@@ -75,7 +78,7 @@ fn met_after(asked: Asked, session: u8, changed: Session) -> Result<(), Unmet>
 
 // The question put to the state after the event; a close is judged once all its roles have ended together.
 fn unmet_by(asked: Asked) -> Result<(), Unmet>
-    ensures { result ≡ clear_of (unmet_by asked.entry.policy.now.draft.tables asked.entry.state.now.cells asked.entry.event) }
+    ensures { result ≡ ok_unless (unmet_by asked.entry.policy.now.draft.tables asked.entry.state.now.cells asked.entry.event) }
 {
     let state = asked.state;
     match asked.event {
@@ -97,6 +100,7 @@ fn unmet_by(asked: Asked) -> Result<(), Unmet>
 #[derive(Clone, Copy)]
 pub struct Dependency {}
 
+// Kept: as above, an impl for each family.
 impl Rule for Dependency {
     ghost rules = { λ _. dependency ∷ [] };
 

@@ -57,6 +57,7 @@ pub fn begin(checked: Checked) -> Monitor<House>
 }
 
 // Decides an event by the house pile. Whatever events led here, nobody is authorised afterwards for two roles in static conflict.
+// Kept: as in decide, that policy and pile stay is a fact about two moments, which no invariant carries.
 pub fn decide(monitor: &mut Monitor<House>, event: Event) -> Answer
     ensures answer { result ≡ answer_to house_rules monitor.old.ledger event }
     ensures state { monitor.new.ledger.state.cells ≡ state_after house_rules monitor.old.ledger event }

@@ -3,7 +3,6 @@
 
 pub mod cardinality;
 pub mod dependency;
-mod family;
 pub mod house;
 pub mod precedence;
 pub mod separation;

@@ -1,16 +1,17 @@
 // Precedence: all that a role requires stands before the role is enabled, assigned or activated.
 ghost use Rattle.std.specs.Prelude.{◌≡◌, [], ◌∷◌};
 ghost use Rattle.sets.specs.Sets.{has};
-ghost use Rattle.families.specs.Family.{clear_of, at_top};
+ghost use Rattle.policy.specs.Asking.{ok_unless};
+ghost use Rattle.monitor.specs.Answers.{at_top};
 ghost use Rattle.families.specs.Precedence.{precedence, condition_number, condition_row, required_set, lack, assigned_in, enable_lack, assign_lack, activate_lack, lacking_by, lack_number, lack_subject};
 ghost use Rattle.families.specs.Required.{precedence_law};
 ghost use Rattle.std.proofs.Common.{rules};
 
-use crate::family::{at_top, none_of};
 use monitor::answer::Reason;
 use monitor::asked::Asked;
 use monitor::cells::{Session, Whose};
 use monitor::rule::Rule;
+use policy::asking::none_of;
 use policy::rows::at_or;
 use policy::tables::Tables;
 use records::event::Event;
@@ -73,11 +74,12 @@ impl Lack {
     }
 }
 
+// Kept: an impl for each family is what the trait asks, and the gate refuses impls that a macro of our own makes.
 impl From<Lack> for Reason {
     ghost from_gives = { λ lack reason. reason ≡ at_top (lack_number lack) (lack_subject lack) };
 
     fn from(lack: Lack) -> Reason {
-        at_top(lack.number(), lack.subject())
+        Reason::at_top(lack.number(), lack.subject())
     }
 }
 
@@ -94,7 +96,7 @@ fn required_set(tables: &Tables, condition: Condition, role: u8) -> RoleSet
 
 // Passes where every role that is required so is among those that stand.
 fn require(asked: Asked, condition: Condition, role: u8, standing: RoleSet) -> Result<(), Lack>
-    ensures { result ≡ clear_of (lack asked.entry.policy.now.draft.tables condition role (has standing.bits)) }
+    ensures { result ≡ ok_unless (lack asked.entry.policy.now.draft.tables condition role (has standing.bits)) }
 {
     let required = required_set(&asked.policy.draft.tables, condition, role);
     let missing = required.difference(standing);
@@ -113,14 +115,14 @@ fn assigned_among(users: &[RoleSet; 64]) -> RoleSet
 
 // The question to the enabling of a role.
 fn enable_lack(asked: Asked, role: u8) -> Result<(), Lack>
-    ensures { result ≡ clear_of (enable_lack asked.entry.policy.now.draft.tables asked.entry.state.now.cells role) }
+    ensures { result ≡ ok_unless (enable_lack asked.entry.policy.now.draft.tables asked.entry.state.now.cells role) }
 {
     require(asked, Condition::Enabled, role, asked.state.cells.enabled)
 }
 
 // The questions to an assignment.
 fn assign_lack(asked: Asked, user: u8, role: u8) -> Result<(), Lack>
-    ensures { result ≡ clear_of (assign_lack asked.entry.policy.now.draft.tables asked.entry.state.now.cells user role) }
+    ensures { result ≡ ok_unless (assign_lack asked.entry.policy.now.draft.tables asked.entry.state.now.cells user role) }
 {
     let own = asked.state.assigned(user);
     require(asked, Condition::AssignedToUser, role, own)?;
@@ -130,7 +132,7 @@ fn assign_lack(asked: Asked, user: u8, role: u8) -> Result<(), Lack>
 
 // The questions to an activation in a session.
 fn activate_lack(asked: Asked, role: u8, session: Session) -> Result<(), Lack>
-    ensures { result ≡ clear_of (activate_lack asked.entry.policy.now.draft.tables asked.entry.state.now.cells role session) }
+    ensures { result ≡ ok_unless (activate_lack asked.entry.policy.now.draft.tables asked.entry.state.now.cells role session) }
 {
     let Session::Open { owner, active } = session else {
         return Ok(());
@@ -144,7 +146,7 @@ fn activate_lack(asked: Asked, role: u8, session: Session) -> Result<(), Lack>
 
 // The questions that the event may fail.
 fn lack_by(asked: Asked) -> Result<(), Lack>
-    ensures { result ≡ clear_of (lacking_by asked.entry.policy.now.draft.tables asked.entry.state.now.cells asked.entry.event) }
+    ensures { result ≡ ok_unless (lacking_by asked.entry.policy.now.draft.tables asked.entry.state.now.cells asked.entry.event) }
 {
     match asked.event {
         Event::Enable { role } => enable_lack(asked, role),
@@ -159,6 +161,7 @@ fn lack_by(asked: Asked) -> Result<(), Lack>
 #[derive(Clone, Copy)]
 pub struct Precedence {}
 
+// Kept: as above, an impl for each family.
 impl Rule for Precedence {
     ghost rules = { λ _. precedence ∷ [] };
 

@@ -2,19 +2,21 @@
 ghost use Rattle.std.specs.Prelude.{◌≡◌, ℕ, ◌<◌, [], ◌∷◌};
 ghost use Rattle.std.specs.Option.{option_map};
 ghost use Rattle.sets.specs.Sets.{has};
+ghost use Rattle.policy.specs.Asking.{ok_unless};
 ghost use Rattle.monitor.specs.declared.cells.Whose.TheVariants.{User};
-ghost use Rattle.families.specs.Family.{Exact, active_for, clear_of, at_top};
+ghost use Rattle.monitor.specs.Answers.{at_top};
+ghost use Rattle.families.specs.Family.{Exact, active_for};
 ghost use Rattle.families.specs.Separation.{static_clash, dynamic_clash, user_clash, clash_by, clash_number, clash_subject, separation};
 ghost use Rattle.families.specs.declared.separation.Clash.TheVariants.{StaticRole, DynamicRole, ConflictingUser};
 ghost use Rattle.families.specs.Apart.{separation_law};
 ghost use Rattle.std.proofs.Common.{rules};
 
-use crate::family::{at_top, none_of};
 use monitor::answer::Reason;
 use monitor::asked::Asked;
 use monitor::cells::Whose;
 use monitor::rule::Rule;
 use monitor::state::State;
+use policy::asking::none_of;
 use records::event::Event;
 use sets::UserSet;
 
@@ -51,11 +53,12 @@ impl Clash {
     }
 }
 
+// Kept: an impl for each family is what the trait asks, and the gate refuses impls that a macro of our own makes.
 impl From<Clash> for Reason {
     ghost from_gives = { λ clash reason. reason ≡ at_top (clash_number clash) (clash_subject clash) };
 
     fn from(clash: Clash) -> Reason {
-        at_top(clash.number(), clash.subject())
+        Reason::at_top(clash.number(), clash.subject())
     }
 }
 
@@ -76,7 +79,7 @@ fn users_with(state: &State, role: u8) -> UserSet
 
 // No role in static conflict with the asked one that the user is authorised for.
 fn assign_clash(asked: Asked, user: u8, role: u8) -> Result<(), Clash>
-    ensures { result ≡ clear_of (option_map StaticRole (static_clash asked.entry.policy.now.draft.tables asked.entry.state.now.cells user role)) }
+    ensures { result ≡ ok_unless (option_map StaticRole (static_clash asked.entry.policy.now.draft.tables asked.entry.state.now.cells user role)) }
 {
     let partners = asked.policy.draft.tables.ssd.of(role);
     let clashing = asked.state.authorised(user).intersection(partners);
@@ -85,7 +88,7 @@ fn assign_clash(asked: Asked, user: u8, role: u8) -> Result<(), Clash>
 
 // No role in dynamic conflict with the asked one that the owner has active.
 fn dynamic_clash(asked: Asked, owner: u8, role: u8) -> Result<(), Clash>
-    ensures { result ≡ clear_of (option_map DynamicRole (dynamic_clash asked.entry.policy.now.draft.tables asked.entry.state.now.cells owner role)) }
+    ensures { result ≡ ok_unless (option_map DynamicRole (dynamic_clash asked.entry.policy.now.draft.tables asked.entry.state.now.cells owner role)) }
 {
     let partners = asked.policy.draft.tables.dsd.of(role);
     let active = asked.state.active_in(Whose::User { user: owner });
@@ -95,7 +98,7 @@ fn dynamic_clash(asked: Asked, owner: u8, role: u8) -> Result<(), Clash>
 
 // No user in conflict with the owner for the asked role who has it active.
 fn user_clash(asked: Asked, owner: u8, role: u8) -> Result<(), Clash>
-    ensures { result ≡ clear_of (option_map ConflictingUser (user_clash asked.entry.policy.now.draft.tables asked.entry.state.now.cells owner role)) }
+    ensures { result ≡ ok_unless (option_map ConflictingUser (user_clash asked.entry.policy.now.draft.tables asked.entry.state.now.cells owner role)) }
 {
     let rivals = asked.policy.draft.tables.conflicting.of(role, owner);
     let clashing = rivals.intersection(users_with(asked.state, role));
@@ -104,7 +107,7 @@ fn user_clash(asked: Asked, owner: u8, role: u8) -> Result<(), Clash>
 
 // The questions that the event may fail.
 fn clash_by(asked: Asked) -> Result<(), Clash>
-    ensures { result ≡ clear_of (clash_by asked.entry.policy.now.draft.tables asked.entry.state.now.cells asked.entry.event) }
+    ensures { result ≡ ok_unless (clash_by asked.entry.policy.now.draft.tables asked.entry.state.now.cells asked.entry.event) }
 {
     match asked.event {
         Event::Assign { user, role } => assign_clash(asked, user, role),
@@ -120,6 +123,7 @@ fn clash_by(asked: Asked) -> Result<(), Clash>
 #[derive(Clone, Copy)]
 pub struct Separation {}
 
+// Kept: as above, an impl for each family.
 impl Rule for Separation {
     ghost rules = { λ _. separation ∷ [] };
 

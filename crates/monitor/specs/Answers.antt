@@ -2,6 +2,7 @@
 use Rattle.std.specs.Prelude.{ℕ, Ok, Err, Result}
 use Rattle.sets.specs.Aliases.{RoleSet}
 use Rattle.policy.specs.Entries.{no_roles}
+use Rattle.monitor.specs.declared.answer.Reason.{Reason}
 use Rattle.monitor.specs.declared.answer.Refusal.{Refusal}
 use Rattle.monitor.specs.declared.answer.Refusal.TheVariants.{Hindered, Refused}
 use Rattle.monitor.specs.declared.answer.Hindrance.{Hindrance}
@@ -40,6 +41,10 @@ hindrance_subject AlreadyActive = 0
 hindrance_subject NotActive = 0
 hindrance_subject InUse = 0
 hindrance_subject (StillActive role) = role
+
+-- the reason that a rule by itself names
+abbrev pub at_top : ℕ → ℕ → Reason
+at_top number subject = record { number = number; subject = subject; place = 1 }
 
 abbrev pub refusal_number : Refusal → ℕ
 refusal_number (Hindered h) = hindrance_number h

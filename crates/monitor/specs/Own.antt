@@ -5,6 +5,7 @@ use Rattle.policy.specs.declared.tables.Tables.{Tables}
 use Rattle.monitor.specs.declared.answer.Reason.{Reason}
 use Rattle.monitor.specs.declared.cells.Cells.{Cells}
 use Rattle.monitor.specs.declared.own.Objection.{Objection}
+use Rattle.monitor.specs.Answers.{at_top}
 use Rattle.monitor.specs.Meaning.{Meaning}
 
 -- every number that it names is one of an own rule
@@ -13,7 +14,7 @@ Confined m = (t : Tables) (c : Cells) (e : Event) → (100 ≤ m.number t c e) �
 
 -- the reason that a pile of the rule alone names
 abbrev pub reason_for : Objection → Reason
-reason_for o = record { number = o.number; subject = o.subject; place = 1 }
+reason_for o = at_top o.number o.subject
 
 -- what it answers
 abbrev pub objection : Meaning → Tables → Cells → Event → Result (Unit {0}) Objection

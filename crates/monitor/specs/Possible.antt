@@ -1,5 +1,5 @@
 -- When an event is possible: the questions of each event, in their order. Assumes nothing.
-use Rattle.std.specs.Prelude.{◌≡◌, ℕ, Bool, cond, not, ◌&&◌, Some, None, Option, Ok, Err, Result, nat_lt, slice_index_or}
+use Rattle.std.specs.Prelude.{◌≡◌, ℕ, Bool, cond, not, ◌&&◌, Some, None, Option, nat_lt, slice_index_or}
 use Rattle.std.specs.Option.{option_map}
 use Rattle.sets.specs.First.{first_below}
 use Rattle.sets.specs.Sets.{has, without_member}
@@ -55,11 +55,6 @@ hindrance t c (Open s u) = asked (nat_lt s t.sizes.sessions && nat_lt u t.sizes.
 hindrance t c (Close s) = asked (nat_lt s t.sizes.sessions) OutOfRange (open_first (session_at c s))
 hindrance t c (Activate s r) = asked (nat_lt s t.sizes.sessions && nat_lt r t.sizes.roles) OutOfRange (may_activate c r (session_at c s))
 hindrance t c (Deactivate s r) = asked (nat_lt s t.sizes.sessions && nat_lt r t.sizes.roles) OutOfRange (may_deactivate r (session_at c s))
-
--- the questions as they are asked: Ok, unless one is answered no
-abbrev pub ok_unless : Option Hindrance → Result (Unit {0}) Hindrance
-ok_unless None = Ok tt
-ok_unless (Some h) = Err h
 
 abbrev pub Possible : Tables → Cells → Event → Type 0
 Possible t c e = hindrance t c e ≡ None

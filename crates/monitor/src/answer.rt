@@ -1,7 +1,7 @@
 // What an event is answered.
 ghost use Rattle.std.specs.Prelude.{◌≡◌};
 ghost use Rattle.monitor.specs.declared.answer.Refusal.TheVariants.{Hindered, Refused};
-ghost use Rattle.monitor.specs.Answers.{hindrance_number, hindrance_subject, refusal_number, refusal_subject, refusal_place};
+ghost use Rattle.monitor.specs.Answers.{hindrance_number, hindrance_subject, at_top, refusal_number, refusal_subject, refusal_place};
 
 use sets::RoleSet;
 
@@ -57,11 +57,25 @@ impl Hindrance {
 }
 
 // Why a rule does not admit an event: its number and subject, and its place in the pile, counted from 1 at the top.
+// Kept: the number is a number, since an archive's rule brings numbers of its own, which no enum here can list.
 #[derive(Clone, Copy)]
 pub struct Reason {
     pub number: u8,
     pub subject: u8,
     pub place: u8,
+}
+
+impl Reason {
+    // The reason that a rule by itself names.
+    pub fn at_top(number: u8, subject: u8) -> Reason
+        ensures { result ≡ at_top number subject }
+    {
+        Reason {
+            number,
+            subject,
+            place: 1,
+        }
+    }
 }
 
 // Why an event is not done.

@@ -16,6 +16,7 @@ pub struct Situation<'a> {
 }
 
 // A possible event, with the policy and the state that it is asked in.
+// Kept: it has the two fields of `Situation` again, one path less for every rule that reads them.
 #[derive(Clone, Copy)]
 pub struct Asked<'a> {
     pub policy: &'a Approved,

@@ -10,6 +10,7 @@ pub enum Session {
 }
 
 // Each user's assigned roles and, beside them, the roles that these authorise; the enabled roles; the sessions.
+// Kept: two arrays by user; each definition and count goes over one of them whole, and would have to take an array of pairs apart.
 #[derive(Clone, Copy)]
 pub struct Cells {
     pub assigned: [RoleSet; 64],

@@ -15,6 +15,7 @@ use sets::RoleSet;
 
 impl Session {
     // The session with the role active too; a closed one stays closed.
+    // Kept: one function that takes the change as a closure would still need this one and the next, for the two definitions.
     pub fn activated(self, role: u8) -> Session
         ensures { result ≡ activated role self }
     {

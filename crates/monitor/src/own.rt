@@ -9,6 +9,7 @@ use crate::asked::Asked;
 use crate::rule::Rule;
 
 // Why an own rule does not admit an event.
+// Kept: as in a reason, the number is one that the archive chooses, which no enum here can list.
 #[derive(Clone, Copy)]
 pub struct Objection {
     pub number: u8,
@@ -20,11 +21,7 @@ impl From<Objection> for Reason {
     ghost from_gives = { λ o r. r ≡ reason_for o };
 
     fn from(objection: Objection) -> Reason {
-        Reason {
-            number: objection.number,
-            subject: objection.subject,
-            place: 1,
-        }
+        Reason::at_top(objection.number, objection.subject)
     }
 }
 

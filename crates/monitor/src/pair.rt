@@ -21,9 +21,8 @@ fn further_down(reason: Reason, above: u8) -> Reason
     ensures { result ≡ lowered above reason }
 {
     Reason {
-        number: reason.number,
-        subject: reason.subject,
         place: above.saturating_add(reason.place),
+        ..reason
     }
 }
 

@@ -1,13 +1,15 @@
 // Whether an event is possible: its questions, in their order.
-ghost use Rattle.std.specs.Prelude.{◌≡◌, None};
+ghost use Rattle.std.specs.Prelude.{◌≡◌};
 ghost use Rattle.records.specs.declared.event.Event.TheVariants.{Assign, Deassign, Disable};
+ghost use Rattle.policy.specs.Asking.{ok_unless};
 ghost use Rattle.monitor.specs.Authority.{given, Gives};
-ghost use Rattle.monitor.specs.Possible.{asked, hindrance, lost_with, may_activate, may_deactivate, ok_unless};
+ghost use Rattle.monitor.specs.Possible.{hindrance, lost_with, may_activate, may_deactivate};
 
 use crate::answer::Hindrance;
 use crate::asked::Situation;
 use crate::cells::{Session, Whose};
 use policy::approved::Approved;
+use policy::asking::{check, none_of};
 use records::event::Event;
 use sets::RoleSet;
 
@@ -17,13 +19,6 @@ pub fn authority(policy: &Approved, assigned: RoleSet) -> RoleSet
     ensures law { Gives policy.now.draft.tables assigned result }
 {
     policy.seniority.below(assigned)
-}
-
-// One question: where the answer is no, the event is hindered.
-fn check(yes: bool, hindrance: Hindrance) -> Result<(), Hindrance>
-    ensures { result ≡ ok_unless (asked yes hindrance None) }
-{
-    if yes { Ok(()) } else { Err(hindrance) }
 }
 
 // The questions to a deactivation in a session, once its numbers are in range.
@@ -68,10 +63,10 @@ impl<'a> Situation<'a> {
         check(in_range, Hindrance::OutOfRange)?;
         let held = self.state.assigned(user);
         check(held.contains(role), Hindrance::NotAssigned)?;
-        match self.lost(user, role) {
-            Some(role) => Err(Hindrance::StillActive { role }),
-            None => Ok(()),
-        }
+        none_of(
+            self.lost(user, role)
+                .map(|role| Hindrance::StillActive { role }),
+        )
     }
 
     // The questions to the disabling of a role.

@@ -10,6 +10,7 @@ pub trait Rule {
     ghost rules: { Self → List Meaning };
 
     // Admits the possible event, or names the topmost rule that does not.
+    // Kept: `asked` is named by its parts; the definitions speak of plain tables, cells and event, which specs can build and compare.
     fn consult(&self, asked: Asked) -> Result<(), Reason>
         ensures { result ≡ ruling (rules self.now) asked.entry.policy.now.draft.tables asked.entry.state.now.cells asked.entry.event };
 

@@ -21,6 +21,7 @@ pub enum Pause {
 }
 
 // The rows that a run filled, the bytes of their events, and why it ended.
+// Kept: `rows` counts the rows that the caller lent, a fixed form of the project.
 #[derive(Clone, Copy)]
 pub struct Outcome {
     pub rows: usize,
@@ -42,6 +43,7 @@ impl Outcome {
 }
 
 // Decides the event at the front and writes its row, and answers the bytes after it; `at` is its place.
+// Kept: as in decide, that policy and pile stay is a fact about two moments, which no invariant carries.
 fn step<'a, P: Rule>(
     monitor: &mut Monitor<P>,
     bytes: &'a [u8],
@@ -58,6 +60,7 @@ fn step<'a, P: Rule>(
 }
 
 // Fills a row for each event, until something ends it: the run itself, from which `run` has its laws.
+// Kept: as in decide, that policy and pile stay is a fact about two moments, which no invariant carries.
 fn fill<P: Rule>(monitor: &mut Monitor<P>, bytes: &[u8], rows: &mut [Row]) -> Outcome
     ensures answer { result ≡ outcome (script_of bytes.now rows.old) }
     ensures rows { rows.new ≡ rows_after (P.rules monitor.old.pile) monitor.old.ledger bytes.now rows.old }
@@ -99,6 +102,7 @@ fn fill<P: Rule>(monitor: &mut Monitor<P>, bytes: &[u8], rows: &mut [Row]) -> Ou
 
 // Decides each event of the bytes and writes its row, while there are rows. It ends when no byte is left, when no row is left, or
 // at the first record that is no event or is cut, asked in this order; later rows stay as they were.
+// Kept: as in decide, that policy and pile stay is a fact about two moments, which no invariant carries.
 pub fn run<P: Rule>(monitor: &mut Monitor<P>, bytes: &[u8], rows: &mut [Row]) -> Outcome
     ensures answer { result ≡ outcome (script_of bytes.now rows.old) }
     ensures rows { rows.new ≡ rows_after (P.rules monitor.old.pile) monitor.old.ledger bytes.now rows.old }

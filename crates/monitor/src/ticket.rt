@@ -54,6 +54,7 @@ impl Ticket {
 
 impl<P: Rule> Monitor<P> {
     // The event open. A grant gives a ticket for the session, a refusal gives none.
+    // Kept: as in decide, that policy and pile stay is a fact about two moments, which no invariant carries.
     pub fn open(&mut self, session: u8, user: u8) -> Result<Ticket, Refusal>
         ensures answer { result ≡ ticketed session (answer_to (P.rules self.old.pile) self.old.ledger (event.Open session user)) }
         ensures state { self.new.ledger.state.cells ≡ state_after (P.rules self.old.pile) self.old.ledger (event.Open session user) }
@@ -69,6 +70,7 @@ impl<P: Rule> Monitor<P> {
     }
 
     // The event close. A grant uses the ticket up, a refusal hands it back.
+    // Kept: as in decide, that policy and pile stay is a fact about two moments, which no invariant carries.
     pub fn close(&mut self, ticket: Ticket) -> Result<RoleSet, (Ticket, Refusal)>
         ensures answer { result ≡ handed_back ticket (answer_to (P.rules self.old.pile) self.old.ledger (event.Close ticket.session)) }
         ensures state { self.new.ledger.state.cells ≡ state_after (P.rules self.old.pile) self.old.ledger (event.Close ticket.session) }

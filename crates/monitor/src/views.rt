@@ -7,7 +7,7 @@ ghost use Rattle.monitor.specs.Cells.{active, owner, counts, session_at, active_
 
 use crate::cells::{Session, Whose};
 use crate::state::State;
-use policy::rows::at_or;
+use policy::rows::{at_or, put};
 use sets::RoleSet;
 
 impl Session {
@@ -22,6 +22,7 @@ impl Session {
     }
 
     // The owner of the session; 0 for a closed one.
+    // Kept: 0 for a closed one is what the definition says, and every caller asks it of an open one.
     pub fn owner(self) -> u8
         ensures { result ≡ owner self }
     {
@@ -103,9 +104,7 @@ impl State {
         ensures { result ≡ record { bits = active_in Anyone (slice_set self.now.cells.sessions session changed) } }
     {
         let mut sessions = self.cells.sessions;
-        if session < 64 {
-            sessions[session as usize] = changed;
-        }
+        put(&mut sessions, session, changed);
         active_among(&sessions, Whose::Anyone)
     }
 

@@ -1,5 +1,5 @@
--- The rule `once_per_user` keeps its law: from a state that it allows, an event leads to one that it allows, unless it activates the
--- role where its owner has it in use. It proves, for the law of the rule, and assumes nothing.
+-- The rule `once_per_user` keeps its law. It proves, for the law of the rule, and assumes nothing.
+-- From a state that it allows, an event leads to one that it allows, unless it activates the role where its owner has it in use.
 use Rattle.std.specs.Prelude.{◌≡◌, ℕ, true, not, ◌&&◌, ◌⊎◌, ◌==◌, refl}
 use Rattle.std.proofs.Common.{sym, ap, ◌∙◌, inl, inr}
 use Rattle.std.proofs.lemmas.Bool.{both_ways, eq-eqb, and_from, not-true}
