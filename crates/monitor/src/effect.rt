@@ -44,6 +44,7 @@ impl Session {
 
 impl<'a> Asked<'a> {
     // The cells with other roles assigned to the user, who is authorised for what they give.
+    // Kept: an `Asked` has its numbers in range, here and in `moved`, so that `put`, which asks again, would be no plainer.
     fn assigned(self, user: u8, roles: RoleSet) -> Cells
         requires { user < 64 }
         ensures { result ≡ put_assigned self.entry.policy.now.draft.tables self.entry.state.now.cells user roles }

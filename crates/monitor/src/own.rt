@@ -17,6 +17,7 @@ pub struct Objection {
 }
 
 // The rule is a pile of one, and so the topmost there.
+// Kept: an impl for each type, as in the families.
 impl From<Objection> for Reason {
     ghost from_gives = { λ o r. r ≡ reason_for o };
 
@@ -46,6 +47,7 @@ pub struct Own<R> {
     pub rule: R,
 }
 
+// Kept: an impl for each type, as in the families.
 impl<R: OwnRule> Rule for Own<R> {
     ghost rules = { λ x. R.OwnRule.meaning x.rule ∷ [] };
 

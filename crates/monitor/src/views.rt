@@ -22,7 +22,7 @@ impl Session {
     }
 
     // The owner of the session; 0 for a closed one.
-    // Kept: 0 for a closed one is what the definition says, and every caller asks it of an open one.
+    // Kept: a public call promises 0 for a closed session; its callers ask it of open ones, so that an Option would be no plainer.
     pub fn owner(self) -> u8
         ensures { result ≡ owner self }
     {

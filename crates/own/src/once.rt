@@ -7,6 +7,7 @@ ghost use Rattle.own.specs.Keeps.{blank_once, next_once};
 use monitor::asked::Asked;
 use monitor::cells::{Session, Whose};
 use monitor::own::{Objection, OwnRule};
+use policy::asking::check;
 use records::event::Event;
 
 #[derive(Clone, Copy, Default)]
@@ -35,13 +36,13 @@ impl OwnRule for OncePerUser {
             return Ok(());
         };
         let used = asked.state.active_in(Whose::User { user: owner });
-        if role == self.role && used.contains(role) {
-            Err(Objection {
+        let twice = role == self.role && used.contains(role);
+        check(
+            !twice,
+            Objection {
                 number: 100,
                 subject: owner,
-            })
-        } else {
-            Ok(())
-        }
+            },
+        )
     }
 }

@@ -39,6 +39,7 @@ impl Checked {
         ensures law { Vetted draft.now.tables result }
         ensures policy { self.new.policy.draft.tables ≡ (if nat_eq (number_of result) 0 then draft.now.tables else self.old.policy.draft.tables) }
     {
+        // Kept: as in `vet`, but here the closed hierarchy goes on into the policy that passes.
         let seniority = Seniority::of(draft);
         let verdict = Questions {
             tables: &draft.tables,

@@ -33,7 +33,7 @@ pub(crate) struct Questions<'a> {
     ghost closed: { seniority.now.rows ≡ closure tables.now.hierarchy.juniors },
 }
 
-// Kept: the searches answer the failure that they find, as the closures of `find_map` must; `none_of` makes a verdict of it.
+// Kept: seven searches are the tests of `find_map`, and the five questions answer alike; one `none_of` each in `vet` makes the verdict.
 impl Questions<'_> {
     // The five questions in their order.
     pub(crate) fn vet(&self) -> Verdict

@@ -4,6 +4,7 @@ ghost use Rattle.policy.specs.WellFormed.{WellFormed};
 ghost use Rattle.policy.specs.Updates.{only, bare, with_role};
 ghost use Rattle.policy.specs.Reading.{is_sizes, is_end, in_range, differ, unlimited, entered, applied, reading, answered, drafted};
 
+use crate::asking::check;
 use crate::draft::Draft;
 use crate::rows::{add, add_pair, add_users, at_or, put};
 use crate::tables::{
@@ -177,18 +178,19 @@ fn enter(tables: &mut Tables, entry: Entry)
 fn apply(tables: &mut Tables, entry: Entry, at: usize) -> Result<(), Fault>
     ensures { MatchResult result (λ _. applied tables.old entry at ≡ Ok tables.new) (λ f. applied tables.old entry at ≡ Err f) }
 {
-    if is_sizes(entry) != (at == 0) {
-        return Err(Fault::MisplacedSizes { place: at });
-    }
-    if !in_range(tables.sizes, entry) {
-        return Err(Fault::OutOfRange { place: at });
-    }
-    if !differs(entry) {
-        return Err(Fault::EqualPair { place: at });
-    }
-    if !is_unlimited(&tables.limits, entry) {
-        return Err(Fault::RepeatedLimit { place: at });
-    }
+    check(
+        is_sizes(entry) == (at == 0),
+        Fault::MisplacedSizes { place: at },
+    )?;
+    check(
+        in_range(tables.sizes, entry),
+        Fault::OutOfRange { place: at },
+    )?;
+    check(differs(entry), Fault::EqualPair { place: at })?;
+    check(
+        is_unlimited(&tables.limits, entry),
+        Fault::RepeatedLimit { place: at },
+    )?;
     enter(tables, entry);
     Ok(())
 }
@@ -202,6 +204,7 @@ fn read_tables(bytes: &[u8]) -> Result<(Tables, usize), Fault>
 {
     let mut tables = only(ONE_EACH);
     let mut rest = bytes;
+    // Kept: a loop, since how long a record is shows only once it is taken.
     loop {
         let at = bytes.len() - rest.len();
         let (entry, tail) = take::<Entry>(rest, at)?;

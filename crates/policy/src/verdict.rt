@@ -74,6 +74,7 @@ impl Failure {
 }
 
 // The number that is printed for a verdict: 0 where the policy passes.
+// Kept: a match says both cases, here and for the names, as plainly as `err` and `map_or` would.
 pub fn number(verdict: Verdict) -> u8
     ensures { result ≡ number_of verdict }
 {

@@ -9,7 +9,7 @@ pub enum Reader {
 }
 
 impl Reader {
-    // Kept: the kind is the byte that indexes the table; what it means is said by `decode` alone.
+    // Kept: the project fixes the kind as the byte that indexes the table; `decode` and `Event::kind` alone tie it to a record.
     // Whether a record of this kind is one that the reader takes.
     pub fn takes(self, kind: u8) -> bool
         ensures { result ≡ reads self kind }

@@ -40,6 +40,7 @@ pub(crate) fn write_events<P: Rule>(
     let mut rest = bytes;
     // Kept: the sum of the rows of all runs, and no index: each run counts its own.
     let mut count = 0;
+    // Kept: a loop, since only a run says whether another one follows.
     loop {
         let outcome = run(monitor, rest, &mut rows);
         write_rows(text, count, &rows[..outcome.rows])?;
