@@ -1,5 +1,5 @@
 // The house pile: cardinality, separation, precedence, dependency, from the top.
-ghost use Rattle.std.specs.Prelude.{◌≡◌, ℕ, ◌<◌, min, List, [], ◌∷◌, length};
+ghost use Rattle.std.specs.Prelude.{◌≡◌, ℕ, min, List, [], ◌∷◌, length};
 ghost use Rattle.records.specs.declared.event.Event.{Event};
 ghost use Rattle.monitor.specs.Answers.{Answer};
 ghost use Rattle.monitor.specs.Cells.{blank};
@@ -73,7 +73,7 @@ pub fn decide(monitor: &mut Monitor<House>, event: Event) -> Answer
 // conflict, as separation does, so does the pile.
 pub fn static_conflict_reaches_the_pile<P: Rule>(pile: &P) -> u8
     ensures value { result ≡ min 255 (length (P.rules pile.now)) }
-    ensures law { (k : ℕ) → k < length (P.rules pile.now) → SeparatesAt (P.rules pile.now) k → KeepsApart (P.rules pile.now) }
+    ensures law { (k : ℕ) → SeparatesAt (P.rules pile.now) k → KeepsApart (P.rules pile.now) }
     ensures separation { SeparatesAt (separation ∷ []) 0 }
 {
     pile.places()

@@ -20,8 +20,8 @@ use Rattle.families.proofs.Piled.{house-apart}
 use Rattle.report.specs.declared.judging.Judged.{Judged}
 use Rattle.report.specs.Judging.{line_of, where_passed, held_after}
 use Rattle.report.specs.Rests.{Rests, HouseRests}
-use Rattle.report.specs.Roll.{line_text}
-use Rattle.report.specs.Whole.{whole, events_text, told, whole_roll_text}
+use Rattle.report.specs.Texts.{line_text}
+use Rattle.report.specs.Roll.{whole, events_text, told, roll_text}
 use Rattle.report.proofs.Rolling.{tail_is}
 
 abbrev judged_or : Result Judged Fault → Judged
@@ -44,12 +44,12 @@ told-events ms bytes (Ok p) held j e ev =
     ∙ sym (ap (λ v. events_text ms (where_passed v p.0 held) blank (drop j.bytes bytes)) is)
 
 module _ (ms : List Meaning) (bytes : List ℕ) where
-  short : length bytes ≤ 65536 → line_text (line_of (reading bytes)) ++ told ms (reading bytes) bytes ≡ whole_roll_text ms bytes
+  short : length bytes ≤ 65536 → line_text (line_of (reading bytes)) ++ told ms (reading bytes) bytes ≡ roll_text ms bytes
   short l = sym (cond-false (ltb 65536 (length bytes)) (codes "input 9\n") (line_text (line_of (reading bytes)) ++ told ms (reading bytes) bytes) (le-ltb 65536 (length bytes) l))
 
   pub roll_passed : (judged : Result Judged Fault) (j : Judged) (held t : Tables) (c : Cells) (text : List ℕ) {b : Bool} → length bytes ≤ 65536
       → judged ≡ line_of (reading bytes) → judged ≡ Ok j → b ≡ is_err j.verdict → b ≡ false → t ≡ held_after (reading bytes) held → c ≡ blank
-      → text ≡ line_text judged ++ events_text ms t c (take (length bytes - j.bytes) (drop j.bytes bytes)) → text ≡ whole_roll_text ms bytes
+      → text ≡ line_text judged ++ events_text ms t c (take (length bytes - j.bytes) (drop j.bytes bytes)) → text ≡ roll_text ms bytes
   roll_passed judged j held t c text l el ej eb ef et ec e =
       e ∙ ap (λ x. line_text judged ++ events_text ms t c x) (tail_is j.bytes bytes)
       ∙ ap (λ x. line_text judged ++ events_text ms x c (drop j.bytes bytes)) et
@@ -58,7 +58,7 @@ module _ (ms : List Meaning) (bytes : List ℕ) where
       ∙ ap (λ x. line_text (line_of (reading bytes)) ++ x) (sym (told-events ms bytes (reading bytes) held j (sym el ∙ ej) (passed j.verdict eb ef))) ∙ short l
 
   -- the law over whole runs follows from the text alone
-  pub rests : (text : List ℕ) → Every Law ms → text ≡ whole_roll_text ms bytes → Rests ms bytes text
+  pub rests : (text : List ℕ) → Every Law ms → text ≡ roll_text ms bytes → Rests ms bytes text
   rests text law e t n l er ev = record {
     answers = replies ms t blank (whole (drop n bytes)).events;
     state = after ms t blank (whole (drop n bytes)).events;

@@ -18,7 +18,7 @@ use Rattle.monitor.proofs.Filling.{first-first, first_none, length-rows, rows_ap
 use Rattle.monitor.proofs.Joining.{Similar, all_filled, similar_after, similar_same, similar_then, whole_goes_on, whole-settled, within}
 use Rattle.monitor.proofs.Lives.{after_append}
 use Rattle.report.specs.Texts.{row_text, end_text}
-use Rattle.report.specs.Whole.{rows_text, whole, events_text}
+use Rattle.report.specs.Roll.{rows_text, whole, events_text}
 
 -- what the comparison with the end for want of a row says
 abbrev other_end : End → Bool

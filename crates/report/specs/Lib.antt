@@ -1,5 +1,4 @@
 pub mod Texts
 pub mod Judging
 pub mod Roll
-pub mod Whole
 pub mod Rests

@@ -10,8 +10,8 @@ use Rattle.monitor.specs.Meaning.{Meaning}
 use Rattle.families.specs.House.{house_rules}
 use Rattle.families.specs.Separation.{StaticallyApart}
 use Rattle.report.specs.Judging.{line_of}
-use Rattle.report.specs.Roll.{line_text}
-use Rattle.report.specs.Whole.{whole, script_text}
+use Rattle.report.specs.Roll.{whole, script_text}
+use Rattle.report.specs.Texts.{line_text}
 
 -- a policy of n bytes with these tables passed, and after its line stand all the events of the bytes after it with their answers
 pub record OnRoll (ms : List Meaning) (t : Tables) (n : ℕ) (bytes text : List ℕ) : Type 0 where

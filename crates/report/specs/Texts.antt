@@ -24,6 +24,9 @@ policy_line (Ok j) = record { number = number_of j.verdict; figure = j.bytes; na
 abbrev pub judged_text : Result Judged Fault → List ℕ
 judged_text judged = policy_text (policy_line judged).number (policy_line judged).figure (policy_line judged).names
 
+abbrev pub line_text : Result Judged Fault → List ℕ
+line_text judged = judged_text judged ++ codes "\n"
+
 -- index, kind, number, subject, place, roles
 abbrev pub row_text : ℕ → Row → List ℕ
 row_text index row =

@@ -1,6 +1,6 @@
 // The lines of the events: run after run, until one ends for another reason than that no row is left.
 ghost use Rattle.std.specs.Prelude.{◌≡◌, ◌+◌, ◌≤◌, ◌++◌, length, string_bytes, OnOk};
-ghost use Rattle.report.specs.Whole.{rows_text, events_text};
+ghost use Rattle.report.specs.Roll.{rows_text, events_text};
 
 use crate::line::{EndLine, RowLine};
 use monitor::decide::Monitor;

@@ -5,4 +5,3 @@ pub mod events;
 pub mod judging;
 pub mod line;
 pub mod roll;
-pub mod whole;

@@ -1,22 +1,51 @@
+// The roll of an input: the verdict on its policy, and what each event after it is answered.
 ghost use Rattle.std.specs.Prelude.{◌≡◌, IfOk, string_bytes};
+ghost use Rattle.families.specs.House.{house_rules};
+ghost use Rattle.report.specs.Rests.{Rests, HouseRests};
 ghost use Rattle.report.specs.Roll.{roll_text};
 
+use crate::events::write_events;
 use crate::judging::judge;
 use crate::line::PolicyLine;
+use families::house::house;
+use monitor::decide::Monitor;
+use monitor::rule::Rule;
 use policy::checked::Checked;
-use std::alloc::{AllocError, Global};
+use std::alloc::Global;
+use std::fmt;
 
 // The most bytes that an input may have.
-pub(crate) const MOST: usize = 65_536;
+const MOST: usize = 65_536;
 
-// The roll of an input: whether its policy passes, or which question it fails and the lowest witness.
-pub fn roll(heap: Global, bytes: &[u8]) -> Result<String, AllocError>
-    ensures { IfOk result (λ t. string_bytes t ≡ roll_text bytes.now) }
+// The roll of an input, its events decided by a pile.
+pub fn roll_by<P: Rule + Drop>(heap: Global, bytes: &[u8], pile: P) -> Result<String, fmt::Error>
+    ensures text { IfOk result (λ t. string_bytes t ≡ roll_text (P.rules pile) bytes.now) }
+    ensures law { IfOk result (λ t. Rests (P.rules pile) bytes.now (string_bytes t)) }
 {
+    let mut text = String::new(heap);
     if bytes.len() > MOST {
-        return String::from_str(heap, "input 9\n");
+        writeln!(text, "input 9")?;
+        return Ok(text);
     }
     let mut held = Checked::bare();
-    let line = PolicyLine::from(judge(&mut held, bytes));
-    format!(in heap; "{line}\n")
+    let judged = judge(&mut held, bytes);
+    let line = PolicyLine::from(judged);
+    writeln!(text, "{line}")?;
+    let Ok(policy) = judged else {
+        return Ok(text);
+    };
+    if policy.verdict.is_err() {
+        return Ok(text);
+    }
+    let mut monitor = Monitor::begin(held, pile);
+    write_events(&mut text, &mut monitor, &bytes[policy.bytes..])?;
+    Ok(text)
+}
+
+// The roll of an input, its events decided by the house pile.
+pub fn roll(heap: Global, bytes: &[u8]) -> Result<String, fmt::Error>
+    ensures text { IfOk result (λ t. string_bytes t ≡ roll_text house_rules bytes.now) }
+    ensures law { IfOk result (λ t. HouseRests bytes.now (string_bytes t)) }
+{
+    roll_by(heap, bytes, house())
 }

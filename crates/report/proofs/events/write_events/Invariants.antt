@@ -1,6 +1,6 @@
 use Rattle.std.proofs.Common.{◌≡◌, length, string_bytes}
 use Rattle.report.proofs.Rolling.{Rolling}
-use Rattle.report.specs.Whole.{whole}
+use Rattle.report.specs.Roll.{whole}
 use Rattle.report.proofs.events.write_events.Given as goal
 
 abbrev pub invariant-loop-count : goal.invariant-loop-count

@@ -1,5 +1,5 @@
 use Rattle.std.proofs.Common.{◌≡◌, ◌+◌, ◌++◌, drop, string_bytes}
-use Rattle.report.specs.Whole.{rows_text}
+use Rattle.report.specs.Roll.{rows_text}
 use Rattle.report.proofs.events.write_rows.Given as goal
 
 abbrev pub invariant-loop-i : goal.invariant-loop-i

@@ -1,11 +1,11 @@
 use Rattle.std.proofs.Common.{◌-◌, ◌++◌, length, take, drop, ap, ◌∙◌}
 use Rattle.std.specs.Prelude.{codes, string_bytes}
 use Rattle.report.specs.declared.line.PolicyLine.{PolicyLine}
-use Rattle.report.specs.Roll.{line_text}
+use Rattle.report.specs.Texts.{line_text}
 use Rattle.report.specs.Texts.{policy_text}
-use Rattle.report.specs.Whole.{events_text}
+use Rattle.report.specs.Roll.{events_text}
 use Rattle.report.proofs.Resting.{roll_passed, rests}
-use Rattle.report.proofs.whole.whole_roll_by.Goals as goal
+use Rattle.report.proofs.roll.roll_by.Goals as goal
 
 pub returns-clause-text : goal.returns-clause-text
 returns-clause-text g c =
