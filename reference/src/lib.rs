@@ -9,6 +9,7 @@ pub mod monitor;
 pub mod policy;
 pub mod roll;
 pub mod rules;
+pub mod run;
 pub mod sets;
 pub mod state;
 pub mod verdict;

@@ -1,7 +1,9 @@
 -- Questions put one after the other: the first that is failed is answered.
-use Rattle.std.proofs.Common.{◌≡◌, ℕ, not, ◌&&◌, Some, None, Option, Ok, Err, Result, sym, ap, ◌∙◌}
+use Rattle.std.proofs.Common.{◌≡◌, ℕ, Bool, true, false, not, ◌&&◌, ◌||◌, refl, Some, None, Option, Ok, Err, Result, sym, ap, ◌∙◌}
+use Rattle.std.proofs.lemmas.Bool.{both_ways}
 use Rattle.std.specs.Option.{option_map, option_or}
 use Rattle.sets.specs.Aliases.{RoleSet}
+use Rattle.sets.proofs.First.{first_never}
 use Rattle.sets.specs.First.{first_below}
 use Rattle.sets.specs.Sets.{has}
 use Rattle.policy.specs.Asking.{ok_unless}
@@ -30,6 +32,25 @@ pub same_lack : (t : Tables) (k : Condition) (r : ℕ) (q s : RoleSet) (n : ℕ)
 same_lack t k r q s n o eq es eo =
     eo ∙ ap (λ (x : RoleSet). first_below 32 (λ b. has x.bits b && not (has s.bits b))) eq
     ∙ ap (λ (x : RoleSet). first_below 32 (λ b. required t k r b && not (has x.bits b))) es
+
+pub both_none : (x y : Bool) → (x || y) ≡ false → (x ≡ false) × (y ≡ false)
+both_none false y e = (refl, e)
+both_none true y e = (e, absurd (both_ways true e refl))
+
+-- nothing is found where one of the two that it takes is never so
+pub none_left : (n : ℕ) (f g : ℕ → Bool) → ((j : ℕ) → f j ≡ false) → first_below n (λ j. f j && g j) ≡ None
+none_left n f g never = first_never n (λ j. f j && g j) (λ j l. ap (λ (b : Bool). b && g j) (never j))
+
+pub none_right : (n : ℕ) (f g : ℕ → Bool) → ((j : ℕ) → g j ≡ false) → first_below n (λ j. f j && g j) ≡ None
+none_right n f g never = first_never n (λ j. f j && g j) (λ j l. ap (λ (b : Bool). f j && b) (never j) ∙ neither (f j))
+  where
+    neither : (b : Bool) → (b && false) ≡ false
+    neither true = refl
+    neither false = refl
+
+-- a role that requires nothing so lacks nothing
+pub lacks_none : (t : Tables) (k : Condition) (r : ℕ) (stands : ℕ → Bool) → ((b : ℕ) → required t k r b ≡ false) → ok_unless (lack t k r stands) ≡ Ok tt
+lacks_none t k r stands never = ap (λ o. ok_unless (option_map (λ b. record { condition = k; role = b }) o)) (none_left 32 (required t k r) (λ b. not (stands b)) never)
 
 abbrev pub lack_of : Condition → ℕ → Lack
 lack_of k b = record { condition = k; role = b }

@@ -1,5 +1,4 @@
 pub mod Piled
-pub mod Assigned
 pub mod Clear
 pub mod Counted
 pub mod Rivals

@@ -109,7 +109,6 @@ fn assigned_among(users: &[RoleSet; 64]) -> RoleSet
 {
     users
         .iter()
-        .rev()
         .fold(RoleSet::empty(), |all, roles| roles.union(all))
 }
 
@@ -137,6 +136,14 @@ fn activate_lack(asked: Asked, role: u8, session: Session) -> Result<(), Lack>
     let Session::Open { owner, active } = session else {
         return Ok(());
     };
+    let tables = &asked.policy.draft.tables;
+    let required = required_set(tables, Condition::ActiveForAny, role)
+        .union(required_set(tables, Condition::ActiveInSession, role))
+        .union(required_set(tables, Condition::ActiveForOwner, role));
+    // Where nothing is required there is no need to look through the sessions.
+    if required.is_empty() {
+        return Ok(());
+    }
     let anyone = asked.state.active_in(Whose::Anyone);
     require(asked, Condition::ActiveForAny, role, anyone)?;
     require(asked, Condition::ActiveInSession, role, active)?;

@@ -91,6 +91,10 @@ fn dynamic_clash(asked: Asked, owner: u8, role: u8) -> Result<(), Clash>
     ensures { result ≡ ok_unless (option_map DynamicRole (dynamic_clash asked.entry.policy.now.draft.tables asked.entry.state.now.cells owner role)) }
 {
     let partners = asked.policy.draft.tables.dsd.of(role);
+    // Without partners there is no need to look through the sessions.
+    if partners.is_empty() {
+        return Ok(());
+    }
     let active = asked.state.active_in(Whose::User { user: owner });
     let clashing = active.intersection(partners);
     none_of(clashing.lowest()).map_err(|role| Clash::DynamicRole { role })
@@ -101,6 +105,10 @@ fn user_clash(asked: Asked, owner: u8, role: u8) -> Result<(), Clash>
     ensures { result ≡ ok_unless (option_map ConflictingUser (user_clash asked.entry.policy.now.draft.tables asked.entry.state.now.cells owner role)) }
 {
     let rivals = asked.policy.draft.tables.conflicting.of(role, owner);
+    // Nor without rivals.
+    if rivals.is_empty() {
+        return Ok(());
+    }
     let clashing = rivals.intersection(users_with(asked.state, role));
     none_of(clashing.lowest()).map_err(|user| Clash::ConflictingUser { user })
 }

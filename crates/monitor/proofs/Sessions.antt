@@ -1,36 +1,13 @@
 -- Sums over the sessions, one session more or another in its place.
-use Rattle.std.proofs.Common.{◌≡◌, ℕ, zero, suc, ◌+◌, ◌<◌, ◌≤◌, Bool, true, false, cond, ◌⊎◌, List, [], ◌∷◌, length, get_or, reverse, set, sym, refl, ap, ◌∙◌, inl, inr, arith}
-use Rattle.std.specs.List.{fold, count_by}
-use Rattle.std.proofs.lemmas.List.Recursion.{is_count_by}
-use Rattle.std.proofs.lemmas.List.Sums.{fold-append}
-use Rattle.std.proofs.lemmas.List.{reverse-append, get_or-set_same, get_or-set_other, set_past}
+use Rattle.std.proofs.Common.{◌≡◌, ℕ, zero, suc, ◌+◌, ◌<◌, ◌≤◌, true, false, cond, ◌⊎◌, List, [], ◌∷◌, length, get_or, set, sym, refl, ap, ◌∙◌, inl, inr, arith}
+use Rattle.std.proofs.lemmas.List.{get_or-set_same, get_or-set_other, set_past}
 use Rattle.std.proofs.lemmas.Bool.{both_ways, cases_Bool, cases_eq, cases_lt, cond-true, cond-false, or_cases, or_left, or_right}
 use Rattle.sets.proofs.Laws.{has-zero, has-union}
-use Rattle.sets.specs.Aliases.{RoleSet}
-use Rattle.sets.specs.Sets.{has, union}
-use Rattle.policy.specs.Entries.{no_roles}
+use Rattle.sets.specs.Sets.{has}
 use Rattle.monitor.specs.declared.cells.Session.{Session}
 use Rattle.monitor.specs.declared.cells.Session.TheVariants.{Closed}
 use Rattle.monitor.specs.declared.cells.Whose.{Whose}
 use Rattle.monitor.specs.Cells.{active, counts, active_in, sessions_using, tally}
-
--- the sessions that are meant, from the last to the first
-abbrev pub with_session : Whose → RoleSet → Session → RoleSet
-with_session w all x = record { bits = union (cond (counts w x) (active x) 0) all.bits }
-
-pub active_fold : (w : Whose) (xs : List Session) → fold (with_session w) no_roles (reverse xs) ≡ record { bits = active_in w xs }
-active_fold w [] = refl
-active_fold w (x ∷ xs) =
-    ap (fold (with_session w) no_roles) (reverse-append (x ∷ []) xs) ∙ fold-append (with_session w) no_roles (reverse xs) (x ∷ [])
-    ∙ ap (λ (s : RoleSet). with_session w s x) (active_fold w xs)
-
--- the sessions that have the role active, counted
-pub using_count : (xs : List Session) (r : ℕ) → count_by (λ x. has (active x) r) xs ≡ sessions_using xs r
-using_count xs r = sym (is_count_by (λ (ys : List Session). sessions_using ys r) (λ x. has (active x) r) refl (λ x ys. chosen (has (active x) r) (sessions_using ys r)) xs)
-  where
-    chosen : (b : Bool) (n : ℕ) → tally b + n ≡ cond b (1 + n) n
-    chosen true n = omega arith
-    chosen false n = omega arith
 
 -- a role active in a session that counts is among those active
 pub active-counted : (w : Whose) (xs : List Session) (s r : ℕ) → counts w (get_or xs s Closed) ≡ true → has (active (get_or xs s Closed)) r ≡ true

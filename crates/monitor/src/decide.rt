@@ -32,7 +32,8 @@ impl<P: Rule> Monitor<P> {
         }
     }
 
-    // Decides an event: where it is possible and every rule admits it, it is done.
+    // Decides an event: where it is possible and every rule admits it, it is done. The policy, which is large and never changes, is
+    // lent; of a grant the state is copied out and written back whole.
     // Kept: that the policy and the pile stay as they were ties two moments, before and after, as no invariant can.
     pub fn decide(&mut self, event: Event) -> Answer
         ensures answer { result ≡ answer_to (P.rules self.old.pile) self.old.ledger event }
@@ -41,19 +42,13 @@ impl<P: Rule> Monitor<P> {
         ensures pile { self.new.pile ≡ self.old.pile }
         ensures law { Adds (P.rules self.old.pile) self.old.ledger (event ∷ []) (result ∷ []) self.new.ledger.state.cells }
     {
-        let Ledger { policy, state } = self.ledger;
-        let situation = Situation {
-            policy: &policy,
-            state: &state,
-        };
-        let asked = situation.ask(event)?;
+        let Ledger { policy, state } = &self.ledger;
+        let asked = Situation { policy, state }.ask(event)?;
         self.pile.consult(asked)?;
-        self.ledger = Ledger {
-            policy,
-            state: State {
-                cells: asked.moved(),
-            },
-        };
-        Ok(state.ending(event))
+        let ended = state.ending(event);
+        let mut cells = state.cells;
+        cells.change(policy, event);
+        self.ledger.state = State { cells };
+        Ok(ended)
     }
 }

@@ -1,5 +1,5 @@
 // What a granted event does.
-ghost use Rattle.std.specs.Prelude.{◌≡◌, ◌<◌, true};
+ghost use Rattle.std.specs.Prelude.{◌≡◌, true};
 ghost use Rattle.monitor.specs.Authority.{Authorised};
 ghost use Rattle.monitor.specs.Cells.{blank, is_authorised};
 ghost use Rattle.monitor.specs.Effect.{next, ended, activated, deactivated, put_assigned};
@@ -9,7 +9,9 @@ use crate::cells::{Cells, Session};
 use crate::ledger::Ledger;
 use crate::possible::authority;
 use crate::state::State;
+use policy::approved::Approved;
 use policy::checked::Checked;
+use policy::rows::{at_or, put};
 use records::event::Event;
 use sets::RoleSet;
 
@@ -42,50 +44,57 @@ impl Session {
     }
 }
 
-impl<'a> Asked<'a> {
-    // The cells with other roles assigned to the user, who is authorised for what they give.
-    // Kept: an `Asked` has its numbers in range, here and in `moved`, so that `put`, which asks again, would be no plainer.
-    fn assigned(self, user: u8, roles: RoleSet) -> Cells
-        requires { user < 64 }
-        ensures { result ≡ put_assigned self.entry.policy.now.draft.tables self.entry.state.now.cells user roles }
+impl Cells {
+    // The user has these roles assigned, and is authorised for what they give.
+    fn reassign(&mut self, policy: &Approved, user: u8, roles: RoleSet)
+        ensures { self.new ≡ put_assigned policy.now.draft.tables self.old user roles }
     {
-        let mut next = self.state.cells;
-        next.assigned[user as usize] = roles;
-        next.authorised[user as usize] = authority(self.policy, roles);
-        next
+        put(&mut self.assigned, user, roles);
+        put(&mut self.authorised, user, authority(policy, roles));
     }
 
+    // What the event makes of the cells.
+    pub(crate) fn change(&mut self, policy: &Approved, event: Event)
+        ensures { self.new ≡ next policy.now.draft.tables self.old event }
+    {
+        match event {
+            Event::Assign { user, role } => {
+                let held = at_or(&self.assigned, user, RoleSet::empty());
+                self.reassign(policy, user, held.with(role));
+            }
+            Event::Deassign { user, role } => {
+                let held = at_or(&self.assigned, user, RoleSet::empty());
+                self.reassign(policy, user, held.without(role));
+            }
+            Event::Enable { role } => self.enabled = self.enabled.with(role),
+            Event::Disable { role } => self.enabled = self.enabled.without(role),
+            Event::Open { session, user } => {
+                let opened = Session::Open {
+                    owner: user,
+                    active: RoleSet::empty(),
+                };
+                put(&mut self.sessions, session, opened);
+            }
+            Event::Close { session } => put(&mut self.sessions, session, Session::Closed),
+            Event::Activate { session, role } => {
+                let changed = at_or(&self.sessions, session, Session::Closed).activated(role);
+                put(&mut self.sessions, session, changed);
+            }
+            Event::Deactivate { session, role } => {
+                let changed = at_or(&self.sessions, session, Session::Closed).deactivated(role);
+                put(&mut self.sessions, session, changed);
+            }
+        }
+    }
+}
+
+impl<'a> Asked<'a> {
     // The cells that the event makes.
     pub fn moved(self) -> Cells
         ensures { result ≡ next self.entry.policy.now.draft.tables self.entry.state.now.cells self.entry.event }
     {
-        let state = self.state;
-        let mut cells = state.cells;
-        match self.event {
-            Event::Assign { user, role } => {
-                return self.assigned(user, state.assigned(user).with(role))
-            }
-            Event::Deassign { user, role } => {
-                return self.assigned(user, state.assigned(user).without(role))
-            }
-            Event::Enable { role } => cells.enabled = cells.enabled.with(role),
-            Event::Disable { role } => cells.enabled = cells.enabled.without(role),
-            Event::Open { session, user } => {
-                cells.sessions[session as usize] = Session::Open {
-                    owner: user,
-                    active: RoleSet::empty(),
-                };
-            }
-            Event::Close { session } => cells.sessions[session as usize] = Session::Closed,
-            Event::Activate { session, role } => {
-                cells.sessions[session as usize] = cells.sessions[session as usize].activated(role);
-            }
-            Event::Deactivate { session, role } => {
-                cells.sessions[session as usize] = cells.sessions[session as usize].deactivated(
-                    role,
-                );
-            }
-        }
+        let mut cells = self.state.cells;
+        cells.change(self.policy, self.event);
         cells
     }
 }

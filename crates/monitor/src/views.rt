@@ -54,20 +54,21 @@ impl Session {
 pub fn active_among(sessions: &[Session; 64], whose: Whose) -> RoleSet
     ensures { result ≡ record { bits = active_in whose sessions.now } }
 {
-    sessions.iter().rev().fold(
-        RoleSet::empty(),
-        |all, session| session.active_for(whose).union(all),
-    )
+    sessions.iter().fold(RoleSet::empty(), |all, session| {
+        session.active_for(whose).union(all)
+    })
 }
 
 // How many of the sessions have the role active.
 pub fn using_among(sessions: &[Session; 64], role: u8) -> u8
     ensures { result ≡ sessions_using sessions.now role }
 {
-    sessions
-        .iter()
-        .filter(|session| session.active().contains(role))
-        .count() as u8
+    let mut using = 0;
+    // Kept: `filter` and `count` take half as long again.
+    for session in sessions {
+        using += u8::from(session.active().contains(role));
+    }
+    using
 }
 
 impl State {

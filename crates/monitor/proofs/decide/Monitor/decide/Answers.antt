@@ -1,4 +1,3 @@
-use Rattle.monitor.specs.Effect.{next}
 use Rattle.monitor.specs.Meaning.{ruling}
 use Rattle.monitor.proofs.Ledgers.{moved_fits}
 use Rattle.monitor.proofs.Lives.{adds_hindered, adds_refused, adds_done}
@@ -21,13 +20,13 @@ returns-in_err-consult-clause-law g c =
 pub invariant_of-self : goal.invariant_of-self
 invariant_of-self g c =
     let asked = c.in_ok-asked.ensures in
-    let fits = moved_fits c.args.self.now.ledger c.args.event _ asked.hindrance (asked_of next c.moved.ensures asked.asked) in
+    let fits = moved_fits c.args.self.now.ledger c.args.event _ asked.hindrance c.change.ensures in
     record { wide = fits.sound.wide; owned = fits.sound.owned; live = fits.sound.live; entitled = fits.sound.entitled }
 
 pub invariant_of-self-2 : goal.invariant_of-self-2
 invariant_of-self-2 g c =
     let asked = c.in_ok-asked.ensures in
-    let fits = moved_fits c.args.self.now.ledger c.args.event _ asked.hindrance (asked_of next c.moved.ensures asked.asked) in
+    let fits = moved_fits c.args.self.now.ledger c.args.event _ asked.hindrance c.change.ensures in
     record { stored = fits.stored; ranged = fits.ranged }
 
 pub returns-clause-law : goal.returns-clause-law
@@ -36,4 +35,4 @@ returns-clause-law g c =
     let ms = g.P.Rule.rules m.pile in
     let asked = c.in_ok-asked.ensures in
     adds_done ms (g.met.P.Rule.lawful m.pile) m.ledger c.args.event _ _ asked.hindrance (asked_of (ruling ms) c.in_ok-consult.ensures asked.asked)
-    c.ending.ensures (asked_of next c.moved.ensures asked.asked)
+    c.ending-ended.ensures c.change.ensures
