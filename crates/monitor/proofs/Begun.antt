@@ -1,23 +1,16 @@
 -- A new state fits every policy.
-use Rattle.std.proofs.Common.{◌≡◌, ℕ, zero, suc, true, List, get_or, sym, refl, ap, ◌∙◌, arith}
-use Rattle.std.proofs.lemmas.Bool.{both_ways, cond-false}
-use Rattle.sets.specs.Sets.{has, union}
+use Rattle.std.proofs.Common.{◌≡◌, ℕ, true, get_or, sym, refl, ap, ◌∙◌, arith}
+use Rattle.std.proofs.lemmas.Bool.{both_ways}
+use Rattle.sets.specs.Sets.{has}
 use Rattle.sets.specs.Aliases.{RoleSet}
 use Rattle.sets.proofs.Laws.{has-zero}
 use Rattle.policy.specs.declared.tables.Tables.{Tables}
 use Rattle.policy.specs.Entries.{no_roles}
-use Rattle.policy.specs.Seniority.{gathered}
+use Rattle.policy.proofs.Loops.{gathered_none}
 use Rattle.policy.proofs.Members.{replicate_each}
 use Rattle.monitor.specs.declared.cells.Session.TheVariants.{Closed}
 use Rattle.monitor.specs.Authority.{given, Fits}
 use Rattle.monitor.specs.Cells.{active, owner, session_at, blank}
-
--- no roles give none
-pub gathered_none : (rows : List RoleSet) (m : ℕ) → gathered rows no_roles m ≡ 0
-unfolding gathered
-gathered_none rows zero = refl
-gathered_none rows (suc m) =
-    cond-false (has 0 m) (union (gathered rows no_roles m) (get_or rows m no_roles).bits) (gathered rows no_roles m) (has-zero m) ∙ gathered_none rows m
 
 -- every session of a new state is closed, and nobody has a role
 pub all_closed : (s : ℕ) → session_at blank s ≡ Closed

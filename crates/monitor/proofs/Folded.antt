@@ -11,6 +11,7 @@ use denote.Param.Members.{Mut}
 use Rattle.sets.specs.Aliases.{RoleSet}
 use Rattle.sets.specs.Sets.{union}
 use Rattle.policy.specs.Entries.{no_roles}
+use Rattle.policy.proofs.Loops.{with_none}
 
 pub folded : {S A B C F : Type 0} {steps : S → Option A → S → Type 0} {v : A → B} {g : Mut F (C × (A × Unit {0})) C} {f : F} {s : S} {all : List B}
     (step : C → B → C) (init r : C)
@@ -29,10 +30,6 @@ regroup : (a b c : ℕ) → union a (union b c) ≡ union (union b a) c
 unfolding union
 regroup a b c =
     same_from_bits _ _ (λ i. omega (arith, bit_at_or a (union b c) i, bit_at_or b c i, bit_at_or (union b a) c i, bit_at_or b a i))
-
-with_none : (a : ℕ) → union a 0 ≡ a
-unfolding union
-with_none a = same_from_bits _ _ (λ i. omega (arith, bit_at_or a 0 i, bit_at-zero i))
 
 none_with : (a : ℕ) → union 0 a ≡ a
 unfolding union

@@ -1,7 +1,8 @@
 -- What the chains and the loop that close the hierarchy give.
-use Rattle.std.proofs.Common.{◌≡◌, ℕ, zero, suc, ◌+◌, ◌<◌, ◌≤◌, Bool, true, false, cond, List, ◌∷◌, map, length, get_or, sym, refl, ap, ◌∙◌, subst, inl, inr, add-one, arith}
+use Rattle.std.proofs.Common.{◌≡◌, ℕ, zero, suc, ◌+◌, ◌<◌, ◌≤◌, Bool, true, false, cond, List, [], ◌∷◌, map, length, get_or, sym, refl, ap, ◌∙◌, subst, inl, inr, add-one, arith}
 use Rattle.std.proofs.lemmas.List.{length-map, get_or-map}
 use Rattle.std.proofs.lemmas.List.FromFn.{fill_by_all}
+use Rattle.std.proofs.lemmas.Nat.Bits.{bit_at_or, bit_at-zero, same_from_bits}
 use Rattle.std.proofs.lemmas.Bool.{cases_eq, cond-true, cond-false}
 use Rattle.std.specs.Array.{MapsFrom, IsMapOf}
 use Rattle.std.specs.Fn.{Called}
@@ -9,6 +10,7 @@ use Rattle.std.specs.List.{filter, fold, range_with_len}
 use denote.Param.Members.{Mut}
 use Rattle.sets.specs.Aliases.{RoleSet}
 use Rattle.sets.specs.Sets.{has, union}
+use Rattle.sets.proofs.Laws.{has-zero}
 use Rattle.policy.specs.Entries.{no_roles}
 use Rattle.policy.specs.Seniority.{gathered, spread_rows, closed_below}
 
@@ -53,6 +55,27 @@ module _ {F A B : Type 0} (g : Mut F (A × Unit {0}) B) (f : F) (h : A → B) (d
       fill_by_all (λ k. h (get_or xs k d)) ys n e m.long (λ k lo. mapped_at 0 n f refl m.each k (omega arith) (omega arith))
       ∙ sym (fill_by_all (λ k. h (get_or xs k d)) (map h xs) n e (length-map xs h ∙ l) (λ k lo. get_or-map h xs k d e (omega arith)))
 
+-- no roles give none
+pub gathered_none : (rows : List RoleSet) (m : ℕ) → gathered rows no_roles m ≡ 0
+unfolding gathered
+gathered_none rows zero = refl
+gathered_none rows (suc m) =
+    cond-false (has 0 m) (union (gathered rows no_roles m) (get_or rows m no_roles).bits) (gathered rows no_roles m) (has-zero m) ∙ gathered_none rows m
+
+-- and add none
+pub with_none : (a : ℕ) → union a 0 ≡ a
+unfolding union
+with_none a = same_from_bits _ _ (λ i. omega (arith, bit_at_or a 0 i, bit_at-zero i))
+
+extended_none : (row : RoleSet) (b : Bool) → ◌≡◌ {A = RoleSet} (cond b (record { bits = union row.bits 0 }) row) row
+extended_none row true = ap (λ (m : ℕ). record { bits = m }) (with_none row.bits)
+extended_none row false = refl
+
+spread_none : (k : ℕ) (rows : List RoleSet) → spread_rows k 0 rows ≡ rows
+spread_none k [] = refl
+spread_none k (row ∷ rows) =
+    ap (λ (x : RoleSet). x ∷ spread_rows k 0 rows) (extended_none row (has row.bits k)) ∙ ap (λ xs. row ∷ xs) (spread_none k rows)
+
 -- one role more inherits
 pub close_more : (juniors rows next : List RoleSet) (role below : ℕ) → rows ≡ closed_below role juniors
     → below ≡ gathered rows (get_or juniors role no_roles) 32 → next ≡ spread_rows role below rows → next ≡ closed_below (role + 1) juniors
@@ -61,3 +84,10 @@ close_more juniors rows next role below er eb en =
     en ∙ ap (λ (b : ℕ). spread_rows role b rows) eb
     ∙ ap (λ (r : List RoleSet). spread_rows role (gathered r (get_or juniors role no_roles) 32) r) er
     ∙ ap (λ (m : ℕ). closed_below m juniors) (sym (add-one role))
+
+-- or it inherits none
+pub close_none : (juniors rows : List RoleSet) (role : ℕ) → rows ≡ closed_below role juniors → (get_or juniors role no_roles).bits ≡ 0
+    → rows ≡ closed_below (role + 1) juniors
+close_none juniors rows role er none =
+    close_more juniors rows rows role 0 er
+    (sym (ap (λ (m : ℕ). gathered rows (record { bits = m }) 32) none ∙ gathered_none rows 32)) (sym (spread_none role rows))

@@ -24,8 +24,11 @@ impl Seniority {
         let mut rows = alone();
         for role in 0..32u8 {
             let juniors = draft.tables.hierarchy.of(role);
-            let below = gather(&rows, juniors);
-            rows = spread(&rows, role, below);
+            // A role without juniors adds nothing to any row.
+            if !juniors.is_empty() {
+                let below = gather(&rows, juniors);
+                rows = spread(&rows, role, below);
+            }
         }
         Seniority { rows }
     }
