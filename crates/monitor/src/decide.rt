@@ -33,7 +33,7 @@ impl<P: Rule> Monitor<P> {
     }
 
     // Decides an event: where it is possible and every rule admits it, it is done. The policy, which is large and never changes, is
-    // lent; of a grant the state is copied out and written back whole.
+    // lent, and so is the state until then.
     // Kept: that the policy and the pile stay as they were ties two moments, before and after, as no invariant can.
     pub fn decide(&mut self, event: Event) -> Answer
         ensures answer { result ≡ answer_to (P.rules self.old.pile) self.old.ledger event }
@@ -45,10 +45,6 @@ impl<P: Rule> Monitor<P> {
         let Ledger { policy, state } = &self.ledger;
         let asked = Situation { policy, state }.ask(event)?;
         self.pile.consult(asked)?;
-        let ended = state.ending(event);
-        let mut cells = state.cells;
-        cells.change(policy, event);
-        self.ledger.state = State { cells };
-        Ok(ended)
+        Ok(self.ledger.grant(event))
     }
 }

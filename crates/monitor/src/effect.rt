@@ -2,6 +2,7 @@
 ghost use Rattle.std.specs.Prelude.{◌≡◌, true};
 ghost use Rattle.monitor.specs.Authority.{Authorised};
 ghost use Rattle.monitor.specs.Cells.{blank, is_authorised};
+ghost use Rattle.monitor.specs.Possible.{Possible};
 ghost use Rattle.monitor.specs.Effect.{next, ended, activated, deactivated, put_assigned};
 
 use crate::asked::Asked;
@@ -143,6 +144,20 @@ impl Ledger {
             policy: checked.into_policy(),
             state: State::new(),
         }
+    }
+
+    // Does a possible event: the state is copied out and written back whole. Answers the roles that it ends and lists.
+    pub(crate) fn grant(&mut self, event: Event) -> RoleSet
+        requires { Possible self.old.policy.draft.tables self.old.state.cells event }
+        ensures ended { result ≡ record { bits = ended self.old.state.cells event } }
+        ensures state { self.new.state.cells ≡ next self.old.policy.draft.tables self.old.state.cells event }
+        ensures policy { self.new.policy ≡ self.old.policy }
+    {
+        let ended = self.state.ending(event);
+        let mut cells = self.state.cells;
+        cells.change(&self.policy, event);
+        self.state = State { cells };
+        ended
     }
 
     // Whether the user is authorised for the role: assigned some role that is senior to it.

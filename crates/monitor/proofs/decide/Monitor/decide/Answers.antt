@@ -1,5 +1,4 @@
 use Rattle.monitor.specs.Meaning.{ruling}
-use Rattle.monitor.proofs.Ledgers.{moved_fits}
 use Rattle.monitor.proofs.Lives.{adds_hindered, adds_refused, adds_done}
 use Rattle.monitor.proofs.Situations.{asked_of}
 use Rattle.monitor.proofs.decide.Monitor.decide.Goals as goal
@@ -17,22 +16,10 @@ returns-in_err-consult-clause-law g c =
     adds_refused ms (g.met.P.Rule.lawful m.pile) m.ledger c.args.event _ _ c.from_residual-in_err-consult.ensures.1 asked.hindrance
     (asked_of (ruling ms) c.in_err-consult.ensures asked.asked)
 
-pub invariant_of-self : goal.invariant_of-self
-invariant_of-self g c =
-    let asked = c.in_ok-asked.ensures in
-    let fits = moved_fits c.args.self.now.ledger c.args.event _ asked.hindrance c.change.ensures in
-    record { wide = fits.sound.wide; owned = fits.sound.owned; live = fits.sound.live; entitled = fits.sound.entitled }
-
-pub invariant_of-self-2 : goal.invariant_of-self-2
-invariant_of-self-2 g c =
-    let asked = c.in_ok-asked.ensures in
-    let fits = moved_fits c.args.self.now.ledger c.args.event _ asked.hindrance c.change.ensures in
-    record { stored = fits.stored; ranged = fits.ranged }
-
 pub returns-clause-law : goal.returns-clause-law
 returns-clause-law g c =
     let m = c.args.self.now in
     let ms = g.P.Rule.rules m.pile in
     let asked = c.in_ok-asked.ensures in
     adds_done ms (g.met.P.Rule.lawful m.pile) m.ledger c.args.event _ _ asked.hindrance (asked_of (ruling ms) c.in_ok-consult.ensures asked.asked)
-    c.ending-ended.ensures c.change.ensures
+    c.grant.ensures.ended c.grant.ensures.state
