@@ -1,12 +1,11 @@
-// Prints the roll of each input that an argument names, under that name. Inputs named `own-` are decided by an own rule above
-// the house pile.
+// Prints the roll of each input that an argument names, under that name. Inputs named `own-` are
+// decided by an own rule above the house pile.
 #![tactic(auto)]
 
 use families::house::{House, house};
-use monitor::own::Own;
-use monitor::pair::Pair;
-use own::once::OncePerUser;
-use report::roll::{roll, roll_by};
+use monitor::{Own, Pair};
+use own::OncePerUser;
+use report::{roll, roll_by};
 use std::alloc::Global;
 use std::io::{BufWriter, Write};
 use std::{env, fmt, fs};

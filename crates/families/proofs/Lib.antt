@@ -1,5 +1,4 @@
-pub mod Piled
-pub mod Clear
-pub mod Counted
-pub mod Rivals
+pub mod Asking
 pub mod Rulings
+pub mod Searches
+pub mod UsersWithRole

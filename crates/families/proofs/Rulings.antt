@@ -2,15 +2,17 @@
 use Rattle.std.proofs.Common.{refl}
 use Rattle.records.specs.Kinds.{body_length}
 use Rattle.sets.specs.First.{first_of}
-use Rattle.sets.specs.Sets.{has, union, with_member, without_member, count_below}
+use Rattle.sets.specs.Sets.{has, union, difference, with_member, without_member, count_below}
 use Rattle.policy.specs.Reading.{read_from}
-use Rattle.policy.specs.Seniority.{gathered, closed_below}
+use Rattle.policy.specs.Seniority.{rows_union, closed_below}
 use Rattle.policy.specs.Updates.{only}
 use Rattle.monitor.specs.Cells.{blank}
+use Rattle.families.specs.Separation.{some_below}
 use Rattle.families.specs.Worked.{WorkedRulings}
 
 pub rulings : WorkedRulings
-unfolding body_length read_from only blank first_of has union with_member without_member count_below gathered closed_below
+unfolding body_length read_from only blank first_of has union difference with_member
+    without_member count_below some_below rows_union closed_below
 rulings = record {
   users_at_limit = (refl, refl);
   users_over_lowest = (refl, refl);
@@ -22,23 +24,23 @@ rulings = record {
   sessions_at_limit = (refl, refl);
   sessions_over = (refl, refl);
   static_apart = (refl, refl);
-  static_clash_lowest = (refl, refl);
+  static_conflict_lowest = (refl, refl);
   dynamic_other_user = (refl, refl);
-  dynamic_clash = (refl, refl);
-  users_agree = (refl, refl);
-  users_clash_lowest = (refl, refl);
+  dynamic_conflict = (refl, refl);
+  users_without_conflict = (refl, refl);
+  users_conflict_lowest = (refl, refl);
   enabled_stands = (refl, refl);
-  enabled_lacks = (refl, refl);
+  enabled_missing = (refl, refl);
   assigned_stands = (refl, refl);
-  assigned_lacks = (refl, refl);
+  assigned_missing = (refl, refl);
   anyone_assigned_stands = (refl, refl);
-  anyone_assigned_lacks = (refl, refl);
+  anyone_assigned_missing = (refl, refl);
   active_stands = (refl, refl);
-  active_lacks = (refl, refl);
+  active_missing = (refl, refl);
   in_session_stands = (refl, refl);
-  in_session_lacks = (refl, refl);
+  in_session_missing = (refl, refl);
   for_owner_stands = (refl, refl);
-  for_owner_lacks_lowest = (refl, refl);
+  for_owner_missing_lowest = (refl, refl);
   dependency_met = (refl, refl);
   dependency_unmet = (refl, refl);
   deactivated_elsewhere_active = (refl, refl);

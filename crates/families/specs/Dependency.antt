@@ -1,56 +1,59 @@
--- Dependency: each role that an active role depends on is active in some session, of anyone. Assumes nothing.
+-- Dependency: each role that an active role depends on is active too, for anyone. Assumes nothing.
+--   Met            the states that it allows
+--   missing        the lowest role that an active role depends on and that is not active
+--   violation_of   the question that a change may fail, put to the state after it
 use Rattle.std.specs.Prelude.{◌≡◌, ℕ, Bool, true, not, ◌&&◌, None, Option}
 use Rattle.std.specs.Option.{option_map}
 use Rattle.sets.specs.First.{first_below}
-use Rattle.sets.specs.Sets.{has}
-use Rattle.records.specs.declared.event.Event.{Event}
-use Rattle.records.specs.declared.event.Event.TheVariants.{Assign, Deassign, Enable, Disable, Open, Close, Activate, Deactivate}
+use Rattle.sets.specs.Sets.{has, union}
 use Rattle.policy.specs.declared.tables.Tables.{Tables}
 use Rattle.policy.specs.Entries.{holds}
-use Rattle.policy.specs.Seniority.{gathered}
-use Rattle.monitor.specs.declared.cells.Cells.{Cells}
-use Rattle.monitor.specs.declared.cells.Whose.TheVariants.{Anyone}
-use Rattle.monitor.specs.Cells.{active_in}
-use Rattle.monitor.specs.Effect.{next}
+use Rattle.policy.specs.Seniority.{rows_union}
+use Rattle.monitor.specs.declared.changes.Change.{Change}
+use Rattle.monitor.specs.declared.changes.Change.TheVariants.{Seated}
+use Rattle.monitor.specs.declared.sessions.Whose.TheVariants.{Anyone}
+use Rattle.monitor.specs.declared.states.Cells.{Cells}
+use Rattle.monitor.specs.Cells.{is_active_for}
+use Rattle.monitor.specs.Changes.{applied, gained, lost}
 use Rattle.monitor.specs.Meaning.{Meaning}
-use Rattle.families.specs.Family.{family, active_for}
-use Rattle.families.specs.declared.dependency.Unmet.{Unmet}
-use Rattle.families.specs.declared.dependency.Unmet.TheVariants.{NotActive}
+use Rattle.monitor.specs.Sessions.{active_in}
+use Rattle.families.specs.Family.{family, by_change, if_any}
+use Rattle.families.specs.declared.dependency.Violation.{Violation}
+use Rattle.families.specs.declared.dependency.Violation.TheVariants.{NotActive}
 
 -- the role is active in some session
-abbrev pub active_anywhere : Cells → ℕ → Bool
-active_anywhere c r = active_for c Anyone r
+abbrev pub is_active_anywhere : Cells → ℕ → Bool
+is_active_anywhere c r = is_active_for c Anyone r
 
 -- role a depends on role b
 abbrev pub depends : Tables → ℕ → ℕ → Bool
 depends t a b = holds t.dependencies.needs a b
 
 abbrev pub Met : Tables → Cells → Type 0
-Met t c = (a b : ℕ) → active_anywhere c a ≡ true → depends t a b ≡ true → active_anywhere c b ≡ true
+Met t c = (a b : ℕ)
+    → is_active_anywhere c a ≡ true → depends t a b ≡ true → is_active_anywhere c b ≡ true
 
--- the lowest role that an active role depends on and that is not active
+-- the lowest role that one of these depends on and that is not among them
+abbrev pub missing_from : Tables → ℕ → Option ℕ
+missing_from t roles =
+    let needed : ℕ = rows_union t.dependencies.needs (record { bits = roles }) 32 in
+    first_below 32 (λ b. has needed b && not (has roles b))
+
 abbrev pub missing : Tables → Cells → Option ℕ
-missing t c = first_below 32 (λ b. has (gathered t.dependencies.needs (record { bits = active_in Anyone c.sessions }) 32) b && not (active_anywhere c b))
+missing t c = missing_from t (active_in Anyone c.sessions)
 
-abbrev pub unmet : ℕ → Unmet
-unmet b = NotActive b
+abbrev pub violation_number : Violation → ℕ
+violation_number (NotActive b) = 61
 
-abbrev pub unmet_number : Unmet → ℕ
-unmet_number (NotActive b) = 61
+abbrev pub violation_subject : Violation → ℕ
+violation_subject (NotActive b) = b
 
-abbrev pub unmet_subject : Unmet → ℕ
-unmet_subject (NotActive b) = b
-
--- 61: in the state after the event
-abbrev pub unmet_by : Tables → Cells → Event → Option Unmet
-unmet_by t c (Assign u r) = None
-unmet_by t c (Deassign u r) = None
-unmet_by t c (Enable r) = None
-unmet_by t c (Disable r) = None
-unmet_by t c (Open s u) = None
-unmet_by t c (Close s) = option_map unmet (missing t (next t c (Close s)))
-unmet_by t c (Activate s r) = option_map unmet (missing t (next t c (Activate s r)))
-unmet_by t c (Deactivate s r) = option_map unmet (missing t (next t c (Deactivate s r)))
+-- 61, where a role becomes active or ceases to be
+abbrev pub violation_of : Tables → Cells → Change → Option Violation
+violation_of t c (Seated s x) =
+    if_any (union (gained c (Seated s x)) (lost c (Seated s x)))
+    (option_map NotActive (missing t (applied t c (Seated s x))))
+violation_of t c _ = None
 
 abbrev pub dependency : Meaning
-dependency = family Met unmet_by unmet_number unmet_subject 61
+dependency = family Met (by_change violation_of) violation_number violation_subject 61

@@ -1,37 +1,47 @@
--- The meaning of a family of rules, from the states that it allows and the first of its questions that an event fails. Assumes nothing.
-use Rattle.std.specs.Prelude.{◌≡◌, ℕ, Bool, true, not, is_some, Some, None, Option}
-use Rattle.sets.specs.Sets.{has}
+-- The meaning of a family of rules: the states that it allows, and its questions. Assumes nothing.
+--   by_change    questions that are put to the change that an event makes
+--   if_any       nothing is asked where nothing is gained
+--   family       the meaning of a family
+--   Exact        it admits exactly what leads to a state that it allows
+use Rattle.std.specs.Prelude.{◌≡◌, ℕ, true, not, is_some, Some, None, Option, if◌then◌else◌, ◌==◌}
 use Rattle.records.specs.declared.event.Event.{Event}
 use Rattle.policy.specs.declared.tables.Tables.{Tables}
-use Rattle.monitor.specs.declared.cells.Cells.{Cells}
-use Rattle.monitor.specs.declared.cells.Whose.{Whose}
+use Rattle.monitor.specs.declared.changes.Change.{Change}
+use Rattle.monitor.specs.declared.states.Cells.{Cells}
 use Rattle.monitor.specs.Authority.{Fits}
-use Rattle.monitor.specs.Cells.{active_in}
-use Rattle.monitor.specs.Effect.{next}
+use Rattle.monitor.specs.Changes.{change_of, next}
 use Rattle.monitor.specs.Meaning.{Meaning, Lawful}
 use Rattle.monitor.specs.Possible.{Possible}
 
--- the role is active in one of the sessions that are meant
-abbrev pub active_for : Cells → Whose → ℕ → Bool
-active_for c w r = has (active_in w c.sessions) r
+-- what a violation says, or d where there is none
+abbrev pub detail_or : {X : Type 0} → (X → ℕ) → ℕ → Option X → ℕ
+detail_or f d None = d
+detail_or f d (Some x) = f x
 
--- what a breach says, or d where there is none
-abbrev pub told : {X : Type 0} → (X → ℕ) → ℕ → Option X → ℕ
-told f d None = d
-told f d (Some x) = f x
+abbrev pub by_change : {X : Type 0} → (Tables → Cells → Change → Option X)
+    → Tables → Cells → Event → Option X
+by_change violation t c e = violation t c (change_of c e)
 
--- it admits what breaches none of its questions; d is the number of the first one
-abbrev pub family : {X : Type 0} → (Tables → Cells → Type 0) → (Tables → Cells → Event → Option X) → (X → ℕ) → (X → ℕ) → ℕ → Meaning
-family allowed breach number subject d = record {
+-- a question that is asked where there is something in the set
+abbrev pub if_any : {X : Type 0} → ℕ → Option X → Option X
+if_any set violation = if set == 0 then None else violation
+
+-- it admits what violates none of its questions; d is the number of the first one
+abbrev pub family : {X : Type 0} → (Tables → Cells → Type 0)
+    → (Tables → Cells → Event → Option X) → (X → ℕ) → (X → ℕ) → ℕ → Meaning
+family allowed violation number subject d = record {
   allowed = allowed;
-  admits = λ t c e. not (is_some (breach t c e));
-  number = λ t c e. told number d (breach t c e);
-  subject = λ t c e. told subject 0 (breach t c e);
+  admits = λ t c e. not (is_some (violation t c e));
+  number = λ t c e. detail_or number d (violation t c e);
+  subject = λ t c e. detail_or subject 0 (violation t c e);
 }
 
--- in a state that it allows, a rule admits a possible event exactly when it allows the state that a grant makes
+-- in a state that it allows, a rule admits a possible event exactly when it allows the state that a
+-- grant makes
 pub record Exact (m : Meaning) : Type 0 where
-  pub admitted_leads_on : (t : Tables) (c : Cells) (e : Event) → Lawful t → Fits t c → Possible t c e → m.allowed t c
-      → m.admits t c e ≡ true → m.allowed t (next t c e)
-  pub allowed_is_admitted : (t : Tables) (c : Cells) (e : Event) → Lawful t → Fits t c → Possible t c e → m.allowed t c
-      → m.allowed t (next t c e) → m.admits t c e ≡ true
+  pub admitted_leads_on : (t : Tables) (c : Cells) (e : Event)
+      → Lawful t → Fits t c → Possible t c e
+      → m.allowed t c → m.admits t c e ≡ true → m.allowed t (next t c e)
+  pub allowed_is_admitted : (t : Tables) (c : Cells) (e : Event)
+      → Lawful t → Fits t c → Possible t c e
+      → m.allowed t c → m.allowed t (next t c e) → m.admits t c e ≡ true

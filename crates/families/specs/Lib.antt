@@ -5,9 +5,9 @@ pub mod Precedence
 pub mod Dependency
 pub mod House
 pub mod Worked
-pub mod Limits
-pub mod Leaning
-pub mod Breaches
-pub mod Sessions
-pub mod Required
-pub mod Apart
+pub mod FamilyLaws
+pub mod CardinalityLaws
+pub mod SeparationLaws
+pub mod PrecedenceLaws
+pub mod DependencyLaws
+pub mod HouseLaws

@@ -1,19 +1,29 @@
--- Separation of duty: static over authorised roles, dynamic over active roles, and conflicting users. Assumes nothing.
-use Rattle.std.specs.Prelude.{◌≡◌, ℕ, true, false, ◌&&◌, None, Option}
+-- Separation of duty: static, dynamic, and of conflicting users. Assumes nothing.
+--   Separated        the states that it allows
+--   newly_assigned   the roles among these that the user was not assigned
+--   static_conflict, dynamic_conflict, user_conflict
+--                    the lowest role or user in conflict with what is gained, in the state after
+--   violation_of     the first question that a change fails
+use Rattle.std.specs.Prelude.{◌≡◌, ℕ, zero, suc, Bool, true, false, ◌&&◌, ◌||◌, None, Option}
 use Rattle.std.specs.Option.{option_map, option_or}
 use Rattle.sets.specs.First.{first_below}
-use Rattle.records.specs.declared.event.Event.{Event}
-use Rattle.records.specs.declared.event.Event.TheVariants.{Assign, Deassign, Enable, Disable, Open, Close, Activate, Deactivate}
+use Rattle.sets.specs.Sets.{has, difference}
+use Rattle.sets.specs.Aliases.{RoleSet}
 use Rattle.policy.specs.declared.tables.Tables.{Tables}
 use Rattle.policy.specs.Entries.{ssd_pair, dsd_pair, users_pair}
-use Rattle.monitor.specs.declared.cells.Cells.{Cells}
-use Rattle.monitor.specs.declared.cells.Whose.TheVariants.{User}
-use Rattle.monitor.specs.Authority.{Authorised}
-use Rattle.monitor.specs.Cells.{owner, session_at, is_authorised}
+use Rattle.policy.specs.Seniority.{rows_union}
+use Rattle.monitor.specs.declared.changes.Change.{Change}
+use Rattle.monitor.specs.declared.changes.Change.TheVariants.{Assigned, Enabled, Seated}
+use Rattle.monitor.specs.declared.sessions.Whose.TheVariants.{User}
+use Rattle.monitor.specs.declared.states.Cells.{Cells}
+use Rattle.monitor.specs.Authority.{Authorised, authority_of}
+use Rattle.monitor.specs.Cells.{assigned_roles, is_active_for}
+use Rattle.monitor.specs.Changes.{applied, gained}
 use Rattle.monitor.specs.Meaning.{Meaning}
-use Rattle.families.specs.Family.{family, active_for}
-use Rattle.families.specs.declared.separation.Clash.{Clash}
-use Rattle.families.specs.declared.separation.Clash.TheVariants.{StaticRole, DynamicRole, ConflictingUser}
+use Rattle.monitor.specs.Sessions.{owner}
+use Rattle.families.specs.Family.{family, by_change, if_any}
+use Rattle.families.specs.declared.separation.Violation.{Violation}
+use Rattle.families.specs.declared.separation.Violation.TheVariants.{StaticRole, DynamicRole, ConflictingUser}
 
 -- nobody is authorised, even by inheritance, for two roles in static conflict
 abbrev pub StaticallyApart : Tables → Cells → Type 0
@@ -22,42 +32,61 @@ StaticallyApart t c = (u a b : ℕ) → Authorised t c u a → Authorised t c u 
 pub record Separated (t : Tables) (c : Cells) : Type 0 where
   pub statically : StaticallyApart t c
   -- nobody has two roles in dynamic conflict active
-  pub dynamically : (u a b : ℕ) → active_for c (User u) a ≡ true → active_for c (User u) b ≡ true → dsd_pair t a b ≡ false
+  pub dynamically : (u a b : ℕ) → is_active_for c (User u) a ≡ true
+      → is_active_for c (User u) b ≡ true → dsd_pair t a b ≡ false
   -- no two users who conflict for a role both have it active
-  pub by_users : (r u v : ℕ) → active_for c (User u) r ≡ true → active_for c (User v) r ≡ true → users_pair t r u v ≡ false
+  pub by_users : (r u v : ℕ) → is_active_for c (User u) r ≡ true
+      → is_active_for c (User v) r ≡ true → users_pair t r u v ≡ false
 
--- 45: the lowest role in static conflict with r that the user is authorised for
-abbrev pub static_clash : Tables → Cells → ℕ → ℕ → Option ℕ
-static_clash t c u r = first_below 32 (λ a. is_authorised c u a && ssd_pair t r a)
+abbrev pub newly_assigned : Cells → ℕ → RoleSet → RoleSet
+newly_assigned c u roles = record { bits = difference 32 roles.bits (assigned_roles c u).bits }
 
--- 46: the lowest role in dynamic conflict with r that the user has active
-abbrev pub dynamic_clash : Tables → Cells → ℕ → ℕ → Option ℕ
-dynamic_clash t c u r = first_below 32 (λ a. active_for c (User u) a && dsd_pair t r a)
+-- 45: the lowest role that these roles authorise for, in static conflict with a newly assigned one
+abbrev pub static_conflict : Tables → Cells → ℕ → RoleSet → Option ℕ
+static_conflict t c u roles =
+    let partners : ℕ = rows_union t.ssd.partners (newly_assigned c u roles) 32 in
+    first_below 32 (λ a. has (authority_of t roles).bits a && has partners a)
 
--- 47: the lowest user in conflict with u for r who has it active
-abbrev pub user_clash : Tables → Cells → ℕ → ℕ → Option ℕ
-user_clash t c u r = first_below 64 (λ v. users_pair t r u v && active_for c (User v) r)
+-- 46: the lowest role active for the user, in dynamic conflict with one of the roles
+abbrev pub dynamic_conflict : Tables → Cells → ℕ → RoleSet → Option ℕ
+dynamic_conflict t c u roles =
+    let partners : ℕ = rows_union t.dsd.partners roles 32 in
+    first_below 32 (λ a. is_active_for c (User u) a && has partners a)
 
-abbrev pub clash_by : Tables → Cells → Event → Option Clash
-clash_by t c (Assign u r) = option_map StaticRole (static_clash t c u r)
-clash_by t c (Deassign u r) = None
-clash_by t c (Enable r) = None
-clash_by t c (Disable r) = None
-clash_by t c (Open s u) = None
-clash_by t c (Close s) = None
-clash_by t c (Activate s r) =
-    option_or (option_map DynamicRole (dynamic_clash t c (owner (session_at c s)) r)) (option_map ConflictingUser (user_clash t c (owner (session_at c s)) r))
-clash_by t c (Deactivate s r) = None
+-- some number below n passes the test
+unfoldable pub some_below : ℕ → (ℕ → Bool) → Bool
+some_below zero test = false
+some_below (suc n) test = some_below n test || test n
 
-abbrev pub clash_number : Clash → ℕ
-clash_number (StaticRole a) = 45
-clash_number (DynamicRole a) = 46
-clash_number (ConflictingUser v) = 47
+-- the user is in conflict with u for one of the roles, and has it active
+abbrev pub is_rival : Tables → Cells → ℕ → RoleSet → ℕ → Bool
+is_rival t c u roles v =
+    some_below 32 (λ r. has roles.bits r && (users_pair t r u v && is_active_for c (User v) r))
 
-abbrev pub clash_subject : Clash → ℕ
-clash_subject (StaticRole a) = a
-clash_subject (DynamicRole a) = a
-clash_subject (ConflictingUser v) = v
+-- 47: the lowest such user
+abbrev pub user_conflict : Tables → Cells → ℕ → RoleSet → Option ℕ
+user_conflict t c u roles = first_below 64 (is_rival t c u roles)
+
+abbrev pub violation_of : Tables → Cells → Change → Option Violation
+violation_of t c (Assigned u roles) =
+    if_any (newly_assigned c u roles).bits (option_map StaticRole (static_conflict t c u roles))
+violation_of t c (Enabled roles) = None
+violation_of t c (Seated s x) =
+    let after : Cells = applied t c (Seated s x) in
+    let new : RoleSet = record { bits = gained c (Seated s x) } in
+    if_any new.bits
+    (option_or (option_map DynamicRole (dynamic_conflict t after (owner x) new))
+    (option_map ConflictingUser (user_conflict t after (owner x) new)))
+
+abbrev pub violation_number : Violation → ℕ
+violation_number (StaticRole a) = 45
+violation_number (DynamicRole a) = 46
+violation_number (ConflictingUser v) = 47
+
+abbrev pub violation_subject : Violation → ℕ
+violation_subject (StaticRole a) = a
+violation_subject (DynamicRole a) = a
+violation_subject (ConflictingUser v) = v
 
 abbrev pub separation : Meaning
-separation = family Separated clash_by clash_number clash_subject 45
+separation = family Separated (by_change violation_of) violation_number violation_subject 45

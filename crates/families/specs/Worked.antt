@@ -6,15 +6,15 @@ use Rattle.std.specs.Prelude.{◌≡◌, ℕ, List, [], ◌∷◌, length, None,
 use Rattle.records.specs.declared.event.Event.{Event}
 use Rattle.records.specs.declared.event.Event.TheVariants.{Assign, Enable, Open, Close, Activate, Deactivate}
 use Rattle.policy.specs.declared.tables.Tables.{Tables}
-use Rattle.policy.specs.Reading.{reading, drafted}
+use Rattle.policy.specs.Reading.{reading, draft_of}
 use Rattle.policy.specs.Worked.{Worked, sample}
-use Rattle.monitor.specs.declared.cells.Cells.{Cells}
-use Rattle.monitor.specs.declared.row.Row.{Row}
+use Rattle.monitor.specs.declared.states.Cells.{Cells}
+use Rattle.monitor.specs.declared.rows.Row.{Row}
 use Rattle.monitor.specs.Cells.{blank}
-use Rattle.monitor.specs.Effect.{next}
+use Rattle.monitor.specs.Changes.{next}
 use Rattle.monitor.specs.History.{replies}
 use Rattle.monitor.specs.Meaning.{Ruling, ruling}
-use Rattle.monitor.specs.Possible.{hindrance}
+use Rattle.monitor.specs.Possible.{impossibility}
 use Rattle.monitor.specs.Rows.{rows_of}
 use Rattle.monitor.specs.Scripts.{Script, script, end_number}
 use Rattle.families.specs.House.{house_rules}
@@ -25,38 +25,48 @@ state_from t c [] = c
 state_from t c (e ∷ es) = state_from t (next t c e) es
 
 -- the same from the state in which nothing stands
-abbrev pub state_after : Tables → List Event → Cells
-state_after t es = state_from t blank es
+abbrev pub state_reached : Tables → List Event → Cells
+state_reached t es = state_from t blank es
 
 -- the event is possible, and this is the ruling on it
-abbrev pub RuledIn : Tables → Cells → Event → Ruling → Type 0
-RuledIn t c e r = (hindrance t c e ≡ None) × (ruling house_rules t c e ≡ r)
+abbrev pub IsRuledIn : Tables → Cells → Event → Ruling → Type 0
+IsRuledIn t c e r = (impossibility t c e ≡ None) × (ruling house_rules t c e ≡ r)
 
 -- the same of the policy that the bytes say, after the events
-abbrev pub Ruled : List ℕ → List Event → Event → Ruling → Type 0
-Ruled policy events e r = RuledIn (drafted (reading policy)) (state_after (drafted (reading policy)) events) e r
+abbrev pub IsRuled : List ℕ → List Event → Event → Ruling → Type 0
+IsRuled policy events e r =
+    let t : Tables = draft_of (reading policy) in IsRuledIn t (state_reached t events) e r
 
--- all the events of the bytes, decided in turn under the policy that the bytes say, have these rows, and no byte is left
+-- all the events of the bytes, decided in turn under the policy that the bytes say, have these
+-- rows, and no byte is left
 abbrev pub RunGives : List ℕ → List ℕ → List Row → Type 0
 RunGives policy bytes rows =
     let s : Script = script (length bytes) bytes 0 in
-    (rows_of s.events (replies house_rules (drafted (reading policy)) blank s.events) ≡ rows) × (end_number s.end ≡ 0)
+    (rows_of s.events (replies house_rules (draft_of (reading policy)) blank s.events) ≡ rows)
+    × (end_number s.end ≡ 0)
 
 abbrev pub row : ℕ → ℕ → ℕ → ℕ → ℕ → Row
-row kind number subject place roles = record { kind = kind; number = number; subject = subject; place = place; roles = record { bits = roles } }
+row kind number subject place roles = record {
+  kind = kind;
+  number = number;
+  subject = subject;
+  place = place;
+  roles = record { bits = roles };
+}
 
 abbrev pub admitted : Ruling
 admitted = Ok tt
 
--- the number, its subject, and the place of the family: cardinality 1, separation 2, precedence 3, dependency 4
+-- the number, its subject, and the place of the family: cardinality 1, separation 2, precedence 3,
+-- dependency 4
 abbrev pub refused : ℕ → ℕ → ℕ → Ruling
 refused number subject place = Err (record { number = number; subject = subject; place = place })
 
 -- the policies
 
 -- role 0 inherits 1 and 2; one user each for 1 and for 2
-abbrev pub seniors : List ℕ
-seniors = 1 ∷ 2 ∷ 3 ∷ 1 ∷ 2 ∷ 0 ∷ 1 ∷ 2 ∷ 0 ∷ 2 ∷ 6 ∷ 1 ∷ 1 ∷ 6 ∷ 2 ∷ 1 ∷ 12 ∷ []
+abbrev pub one_user_each : List ℕ
+one_user_each = 1 ∷ 2 ∷ 3 ∷ 1 ∷ 2 ∷ 0 ∷ 1 ∷ 2 ∷ 0 ∷ 2 ∷ 6 ∷ 1 ∷ 1 ∷ 6 ∷ 2 ∷ 1 ∷ 12 ∷ []
 
 -- role 0 inherits 1; two roles for user 0
 abbrev pub two_roles : List ℕ
@@ -79,141 +89,181 @@ abbrev pub dynamic_pair : List ℕ
 dynamic_pair = 1 ∷ 2 ∷ 3 ∷ 3 ∷ 4 ∷ 2 ∷ 1 ∷ 12 ∷ []
 
 -- for role 0, user 3 conflicts with 2 and with 1
-abbrev pub rivals : List ℕ
-rivals = 1 ∷ 4 ∷ 1 ∷ 4 ∷ 5 ∷ 0 ∷ 3 ∷ 2 ∷ 5 ∷ 0 ∷ 3 ∷ 1 ∷ 12 ∷ []
+abbrev pub conflicting_users : List ℕ
+conflicting_users = 1 ∷ 4 ∷ 1 ∷ 4 ∷ 5 ∷ 0 ∷ 3 ∷ 2 ∷ 5 ∷ 0 ∷ 3 ∷ 1 ∷ 12 ∷ []
 
 -- role 2 requires 0 and 1 enabled
-abbrev pub enabled_first : List ℕ
-enabled_first = 1 ∷ 1 ∷ 3 ∷ 1 ∷ 10 ∷ 1 ∷ 2 ∷ 0 ∷ 10 ∷ 1 ∷ 2 ∷ 1 ∷ 12 ∷ []
+abbrev pub enabled_requirement : List ℕ
+enabled_requirement = 1 ∷ 1 ∷ 3 ∷ 1 ∷ 10 ∷ 1 ∷ 2 ∷ 0 ∷ 10 ∷ 1 ∷ 2 ∷ 1 ∷ 12 ∷ []
 
 -- role 1 requires 0 assigned to the same user
-abbrev pub assigned_first : List ℕ
-assigned_first = 1 ∷ 2 ∷ 2 ∷ 1 ∷ 10 ∷ 2 ∷ 1 ∷ 0 ∷ 12 ∷ []
+abbrev pub assigned_requirement : List ℕ
+assigned_requirement = 1 ∷ 2 ∷ 2 ∷ 1 ∷ 10 ∷ 2 ∷ 1 ∷ 0 ∷ 12 ∷ []
 
 -- role 1 requires 0 assigned to any users
-abbrev pub anyone_assigned_first : List ℕ
-anyone_assigned_first = 1 ∷ 2 ∷ 2 ∷ 1 ∷ 10 ∷ 3 ∷ 1 ∷ 0 ∷ 12 ∷ []
+abbrev pub anyone_assigned_requirement : List ℕ
+anyone_assigned_requirement = 1 ∷ 2 ∷ 2 ∷ 1 ∷ 10 ∷ 3 ∷ 1 ∷ 0 ∷ 12 ∷ []
 
 -- role 1 requires 0 active for any users
-abbrev pub active_first : List ℕ
-active_first = 1 ∷ 2 ∷ 2 ∷ 2 ∷ 10 ∷ 4 ∷ 1 ∷ 0 ∷ 12 ∷ []
+abbrev pub active_requirement : List ℕ
+active_requirement = 1 ∷ 2 ∷ 2 ∷ 2 ∷ 10 ∷ 4 ∷ 1 ∷ 0 ∷ 12 ∷ []
 
 -- role 1 requires 0 active in the same session
-abbrev pub in_session_first : List ℕ
-in_session_first = 1 ∷ 1 ∷ 2 ∷ 2 ∷ 10 ∷ 5 ∷ 1 ∷ 0 ∷ 12 ∷ []
+abbrev pub in_session_requirement : List ℕ
+in_session_requirement = 1 ∷ 1 ∷ 2 ∷ 2 ∷ 10 ∷ 5 ∷ 1 ∷ 0 ∷ 12 ∷ []
 
 -- role 3 requires 2 and 1 active for the session's owner
-abbrev pub for_owner_first : List ℕ
-for_owner_first = 1 ∷ 2 ∷ 4 ∷ 3 ∷ 10 ∷ 6 ∷ 3 ∷ 2 ∷ 10 ∷ 6 ∷ 3 ∷ 1 ∷ 12 ∷ []
+abbrev pub for_owner_requirement : List ℕ
+for_owner_requirement = 1 ∷ 2 ∷ 4 ∷ 3 ∷ 10 ∷ 6 ∷ 3 ∷ 2 ∷ 10 ∷ 6 ∷ 3 ∷ 1 ∷ 12 ∷ []
 
 -- role 1 depends on 0
-abbrev pub leaning : List ℕ
-leaning = 1 ∷ 1 ∷ 2 ∷ 2 ∷ 11 ∷ 1 ∷ 0 ∷ 12 ∷ []
+abbrev pub one_depends : List ℕ
+one_depends = 1 ∷ 1 ∷ 2 ∷ 2 ∷ 11 ∷ 1 ∷ 0 ∷ 12 ∷ []
 
 -- the events before
 
--- one user with two roles and two open sessions
-abbrev pub two_open : List Event → List Event
-two_open more = Assign 0 0 ∷ Assign 0 1 ∷ Enable 0 ∷ Enable 1 ∷ Open 0 0 ∷ Open 1 0 ∷ more
+-- user 0 may activate 0 and 1 in sessions 0 and 1
+abbrev pub two_session_events : List Event → List Event
+two_session_events more =
+    Assign 0 0 ∷ Assign 0 1 ∷ Enable 0 ∷ Enable 1 ∷ Open 0 0 ∷ Open 1 0 ∷ more
 
--- one user with one role and three open sessions
-abbrev pub three_open : List Event → List Event
-three_open more = Assign 0 0 ∷ Enable 0 ∷ Open 0 0 ∷ Open 1 0 ∷ Open 2 0 ∷ more
+-- user 0 may activate 0 in sessions 0, 1 and 2
+abbrev pub three_session_events : List Event → List Event
+three_session_events more = Assign 0 0 ∷ Enable 0 ∷ Open 0 0 ∷ Open 1 0 ∷ Open 2 0 ∷ more
 
 -- user 0 may activate 1 and 2, user 1 may activate 1
-abbrev pub pair_ready : List Event → List Event
-pair_ready more = Assign 0 1 ∷ Assign 0 2 ∷ Assign 1 1 ∷ Enable 1 ∷ Enable 2 ∷ Open 0 0 ∷ Open 1 0 ∷ Open 2 1 ∷ more
+abbrev pub dynamic_pair_events : List Event → List Event
+dynamic_pair_events more =
+    Assign 0 1 ∷ Assign 0 2 ∷ Assign 1 1 ∷ Enable 1 ∷ Enable 2
+    ∷ Open 0 0 ∷ Open 1 0 ∷ Open 2 1 ∷ more
 
--- users 1, 2 and 3 may activate 0
-abbrev pub rivals_ready : List Event → List Event
-rivals_ready more = Assign 1 0 ∷ Assign 2 0 ∷ Assign 3 0 ∷ Enable 0 ∷ Open 1 1 ∷ Open 2 2 ∷ Open 3 3 ∷ Activate 2 0 ∷ more
+-- users 1, 2 and 3 may activate 0, and user 2 has it active
+abbrev pub conflicting_user_events : List Event → List Event
+conflicting_user_events more =
+    Assign 1 0 ∷ Assign 2 0 ∷ Assign 3 0 ∷ Enable 0
+    ∷ Open 1 1 ∷ Open 2 2 ∷ Open 3 3 ∷ Activate 2 0 ∷ more
 
 -- user 0 may activate 1, user 1 may activate 0
-abbrev pub two_users : List Event → List Event
-two_users more = Assign 0 1 ∷ Assign 1 0 ∷ Enable 0 ∷ Enable 1 ∷ Open 0 0 ∷ Open 1 1 ∷ more
+abbrev pub two_user_events : List Event → List Event
+two_user_events more = Assign 0 1 ∷ Assign 1 0 ∷ Enable 0 ∷ Enable 1 ∷ Open 0 0 ∷ Open 1 1 ∷ more
 
 -- user 0 may activate 1, 2 and 3; user 1 has 1 active
-abbrev pub owner_ready : List Event → List Event
-owner_ready more =
-    Assign 0 1 ∷ Assign 0 2 ∷ Assign 0 3 ∷ Assign 1 1 ∷ Enable 1 ∷ Enable 2 ∷ Enable 3 ∷ Open 0 0 ∷ Open 1 0 ∷ Open 2 1 ∷ Activate 2 1 ∷ more
+abbrev pub owner_events : List Event → List Event
+owner_events more =
+    Assign 0 1 ∷ Assign 0 2 ∷ Assign 0 3 ∷ Assign 1 1 ∷ Enable 1 ∷ Enable 2 ∷ Enable 3
+    ∷ Open 0 0 ∷ Open 1 0 ∷ Open 2 1 ∷ Activate 2 1 ∷ more
 
 -- user 0 may activate 1 and 3
-abbrev pub sample_ready : List Event → List Event
-sample_ready more = Assign 0 0 ∷ Assign 0 3 ∷ Enable 1 ∷ Enable 3 ∷ Open 0 0 ∷ more
+abbrev pub sample_session_events : List Event → List Event
+sample_session_events more = Assign 0 0 ∷ Assign 0 3 ∷ Enable 1 ∷ Enable 3 ∷ Open 0 0 ∷ more
 
 pub record WorkedRulings : Type 0 where
   -- 41: the lowest role that is over, here by inheritance
-  pub users_at_limit : Ruled seniors [] (Assign 0 0) admitted
-  pub users_over_lowest : Ruled seniors (Assign 0 0 ∷ []) (Assign 1 0) (refused 41 1 1)
+  pub users_at_limit : IsRuled one_user_each [] (Assign 0 0) admitted
+  pub users_over_lowest : IsRuled one_user_each (Assign 0 0 ∷ []) (Assign 1 0) (refused 41 1 1)
   -- 42: inherited roles count
-  pub roles_at_limit : Ruled two_roles [] (Assign 0 0) admitted
-  pub roles_over : Ruled two_roles (Assign 0 0 ∷ []) (Assign 0 2) (refused 42 0 1)
+  pub roles_at_limit : IsRuled two_roles [] (Assign 0 0) admitted
+  pub roles_over : IsRuled two_roles (Assign 0 0 ∷ []) (Assign 0 2) (refused 42 0 1)
   -- 43: over all sessions of the user, the same role counts once
-  pub active_at_limit : Ruled one_active (two_open []) (Activate 0 0) admitted
-  pub active_same_role : Ruled one_active (two_open (Activate 0 0 ∷ [])) (Activate 1 0) admitted
-  pub active_over : Ruled one_active (two_open (Activate 0 0 ∷ [])) (Activate 1 1) (refused 43 0 1)
+  pub active_at_limit : IsRuled one_active (two_session_events []) (Activate 0 0) admitted
+  pub active_same_role : IsRuled one_active (two_session_events (Activate 0 0 ∷ []))
+      (Activate 1 0) admitted
+  pub active_over : IsRuled one_active (two_session_events (Activate 0 0 ∷ []))
+      (Activate 1 1) (refused 43 0 1)
   -- 44: the second session, and a third
-  pub sessions_at_limit : Ruled two_sessions (three_open (Activate 0 0 ∷ [])) (Activate 1 0) admitted
-  pub sessions_over : Ruled two_sessions (three_open (Activate 0 0 ∷ Activate 1 0 ∷ [])) (Activate 2 0) (refused 44 0 1)
+  pub sessions_at_limit : IsRuled two_sessions (three_session_events (Activate 0 0 ∷ []))
+      (Activate 1 0) admitted
+  pub sessions_over : IsRuled two_sessions (three_session_events (Activate 0 0 ∷ Activate 1 0 ∷ []))
+      (Activate 2 0) (refused 44 0 1)
   -- 45: the lower of two
-  pub static_apart : Ruled static_pairs (Assign 0 2 ∷ []) (Assign 0 1) admitted
-  pub static_clash_lowest : Ruled static_pairs (Assign 0 2 ∷ Assign 0 1 ∷ []) (Assign 0 3) (refused 45 1 2)
+  pub static_apart : IsRuled static_pairs (Assign 0 2 ∷ []) (Assign 0 1) admitted
+  pub static_conflict_lowest : IsRuled static_pairs (Assign 0 2 ∷ Assign 0 1 ∷ [])
+      (Assign 0 3) (refused 45 1 2)
   -- 46: across the sessions of one user, not of two
-  pub dynamic_other_user : Ruled dynamic_pair (pair_ready (Activate 2 1 ∷ [])) (Activate 0 2) admitted
-  pub dynamic_clash : Ruled dynamic_pair (pair_ready (Activate 1 1 ∷ [])) (Activate 0 2) (refused 46 1 2)
+  pub dynamic_other_user : IsRuled dynamic_pair (dynamic_pair_events (Activate 2 1 ∷ []))
+      (Activate 0 2) admitted
+  pub dynamic_conflict : IsRuled dynamic_pair (dynamic_pair_events (Activate 1 1 ∷ []))
+      (Activate 0 2) (refused 46 1 2)
   -- 47: the lower of two users
-  pub users_agree : Ruled rivals (rivals_ready []) (Activate 1 0) admitted
-  pub users_clash_lowest : Ruled rivals (rivals_ready (Activate 1 0 ∷ [])) (Activate 3 0) (refused 47 1 2)
+  pub users_without_conflict : IsRuled conflicting_users (conflicting_user_events [])
+      (Activate 1 0) admitted
+  pub users_conflict_lowest : IsRuled conflicting_users
+      (conflicting_user_events (Activate 1 0 ∷ []))
+      (Activate 3 0) (refused 47 1 2)
   -- 51
-  pub enabled_stands : Ruled enabled_first (Enable 0 ∷ Enable 1 ∷ []) (Enable 2) admitted
-  pub enabled_lacks : Ruled enabled_first (Enable 0 ∷ []) (Enable 2) (refused 51 1 3)
+  pub enabled_stands : IsRuled enabled_requirement (Enable 0 ∷ Enable 1 ∷ []) (Enable 2) admitted
+  pub enabled_missing : IsRuled enabled_requirement (Enable 0 ∷ []) (Enable 2) (refused 51 1 3)
   -- 52: another user's assignment is none
-  pub assigned_stands : Ruled assigned_first (Assign 0 0 ∷ []) (Assign 0 1) admitted
-  pub assigned_lacks : Ruled assigned_first (Assign 1 0 ∷ []) (Assign 0 1) (refused 52 0 3)
-  -- 53: another user's assignment will do
-  pub anyone_assigned_stands : Ruled anyone_assigned_first (Assign 1 0 ∷ []) (Assign 0 1) admitted
-  pub anyone_assigned_lacks : Ruled anyone_assigned_first [] (Assign 0 1) (refused 53 0 3)
-  -- 54: another user's session will do
-  pub active_stands : Ruled active_first (two_users (Activate 1 0 ∷ [])) (Activate 0 1) admitted
-  pub active_lacks : Ruled active_first (two_users []) (Activate 0 1) (refused 54 0 3)
-  -- 55: another session of the user will not do
-  pub in_session_stands : Ruled in_session_first (two_open (Activate 1 0 ∷ [])) (Activate 1 1) admitted
-  pub in_session_lacks : Ruled in_session_first (two_open (Activate 1 0 ∷ [])) (Activate 0 1) (refused 55 0 3)
-  -- 56: another session of the owner will do, another user's will not; the lowest of two
-  pub for_owner_stands : Ruled for_owner_first (owner_ready (Activate 1 1 ∷ Activate 1 2 ∷ [])) (Activate 0 3) admitted
-  pub for_owner_lacks_lowest : Ruled for_owner_first (owner_ready []) (Activate 0 3) (refused 56 1 3)
+  pub assigned_stands : IsRuled assigned_requirement (Assign 0 0 ∷ []) (Assign 0 1) admitted
+  pub assigned_missing : IsRuled assigned_requirement (Assign 1 0 ∷ [])
+      (Assign 0 1) (refused 52 0 3)
+  -- 53: another user's assignment suffices
+  pub anyone_assigned_stands : IsRuled anyone_assigned_requirement (Assign 1 0 ∷ [])
+      (Assign 0 1) admitted
+  pub anyone_assigned_missing : IsRuled anyone_assigned_requirement [] (Assign 0 1) (refused 53 0 3)
+  -- 54: another user's session suffices
+  pub active_stands : IsRuled active_requirement (two_user_events (Activate 1 0 ∷ []))
+      (Activate 0 1) admitted
+  pub active_missing : IsRuled active_requirement (two_user_events [])
+      (Activate 0 1) (refused 54 0 3)
+  -- 55: another session of the user does not suffice
+  pub in_session_stands : IsRuled in_session_requirement (two_session_events (Activate 1 0 ∷ []))
+      (Activate 1 1) admitted
+  pub in_session_missing : IsRuled in_session_requirement (two_session_events (Activate 1 0 ∷ []))
+      (Activate 0 1) (refused 55 0 3)
+  -- 56: another session of the owner suffices, another user's does not; the lowest of two
+  pub for_owner_stands : IsRuled for_owner_requirement
+      (owner_events (Activate 1 1 ∷ Activate 1 2 ∷ []))
+      (Activate 0 3) admitted
+  pub for_owner_missing_lowest : IsRuled for_owner_requirement (owner_events [])
+      (Activate 0 3) (refused 56 1 3)
   -- 61 on activation
-  pub dependency_met : Ruled leaning (two_open (Activate 1 0 ∷ [])) (Activate 0 1) admitted
-  pub dependency_unmet : Ruled leaning (two_open []) (Activate 0 1) (refused 61 0 4)
+  pub dependency_met : IsRuled one_depends (two_session_events (Activate 1 0 ∷ []))
+      (Activate 0 1) admitted
+  pub dependency_unmet : IsRuled one_depends (two_session_events []) (Activate 0 1) (refused 61 0 4)
   -- 61 on deactivation: admitted where another session has the role active
-  pub deactivated_elsewhere_active : Ruled leaning (two_open (Activate 1 0 ∷ Activate 0 0 ∷ Activate 0 1 ∷ [])) (Deactivate 1 0) admitted
-  pub deactivated_last : Ruled leaning (two_open (Activate 1 0 ∷ Activate 0 1 ∷ [])) (Deactivate 1 0) (refused 61 0 4)
+  pub deactivated_elsewhere_active : IsRuled one_depends
+      (two_session_events (Activate 1 0 ∷ Activate 0 0 ∷ Activate 0 1 ∷ []))
+      (Deactivate 1 0) admitted
+  pub deactivated_last : IsRuled one_depends (two_session_events (Activate 1 0 ∷ Activate 0 1 ∷ []))
+      (Deactivate 1 0) (refused 61 0 4)
   -- 61 on a close: its roles end together, where the lower one alone may not end
-  pub closed_together : Ruled leaning (two_open (Activate 0 0 ∷ Activate 0 1 ∷ [])) (Close 0) admitted
-  pub closed_lower_alone : Ruled leaning (two_open (Activate 0 0 ∷ Activate 0 1 ∷ [])) (Deactivate 0 0) (refused 61 0 4)
-  pub closed_last : Ruled leaning (two_open (Activate 1 0 ∷ Activate 0 1 ∷ [])) (Close 1) (refused 61 0 4)
+  pub closed_together : IsRuled one_depends (two_session_events (Activate 0 0 ∷ Activate 0 1 ∷ []))
+      (Close 0) admitted
+  pub closed_lower_alone : IsRuled one_depends
+      (two_session_events (Activate 0 0 ∷ Activate 0 1 ∷ []))
+      (Deactivate 0 0) (refused 61 0 4)
+  pub closed_last : IsRuled one_depends (two_session_events (Activate 1 0 ∷ Activate 0 1 ∷ []))
+      (Close 1) (refused 61 0 4)
   -- the sample
-  pub sample_static : Ruled sample (Assign 0 0 ∷ []) (Assign 0 2) (refused 45 0 2)
-  pub sample_activate : Ruled sample (sample_ready []) (Activate 0 3) (refused 61 1 4)
-  pub sample_deactivate : Ruled sample (sample_ready (Activate 0 1 ∷ Activate 0 3 ∷ [])) (Deactivate 0 1) (refused 61 1 4)
-  pub sample_close : Ruled sample (sample_ready (Activate 0 1 ∷ Activate 0 3 ∷ [])) (Close 0) admitted
+  pub sample_static : IsRuled sample (Assign 0 0 ∷ []) (Assign 0 2) (refused 45 0 2)
+  pub sample_activate : IsRuled sample (sample_session_events []) (Activate 0 3) (refused 61 1 4)
+  pub sample_deactivate : IsRuled sample (sample_session_events (Activate 0 1 ∷ Activate 0 3 ∷ []))
+      (Deactivate 0 1) (refused 61 1 4)
+  pub sample_close : IsRuled sample (sample_session_events (Activate 0 1 ∷ Activate 0 3 ∷ []))
+      (Close 0) admitted
 
--- the sample's events: assign 0 to user 0, then 2, then 3; enable 1 and 3; open; activate 3, 1, 3; deactivate 1; close
+-- the sample's events: assign 0 to user 0, then 2, then 3; enable 1 and 3; open; activate 3, 1, 3;
+-- deactivate 1; close
 abbrev pub sample_events : List ℕ
 sample_events =
-    32 ∷ 0 ∷ 0 ∷ 32 ∷ 0 ∷ 2 ∷ 32 ∷ 0 ∷ 3 ∷ 34 ∷ 1 ∷ 34 ∷ 3 ∷ 36 ∷ 0 ∷ 0 ∷ 38 ∷ 0 ∷ 3 ∷ 38 ∷ 0 ∷ 1 ∷ 38 ∷ 0 ∷ 3 ∷ 39 ∷ 0 ∷ 1 ∷ 37 ∷ 0 ∷ []
+    32 ∷ 0 ∷ 0 ∷ 32 ∷ 0 ∷ 2 ∷ 32 ∷ 0 ∷ 3 ∷ 34 ∷ 1 ∷ 34 ∷ 3 ∷ 36 ∷ 0 ∷ 0
+    ∷ 38 ∷ 0 ∷ 3 ∷ 38 ∷ 0 ∷ 1 ∷ 38 ∷ 0 ∷ 3 ∷ 39 ∷ 0 ∷ 1 ∷ 37 ∷ 0 ∷ []
 
 abbrev pub sample_rows : List Row
 sample_rows =
-    row 32 0 0 0 0 ∷ row 32 45 0 2 0 ∷ row 32 0 0 0 0 ∷ row 34 0 0 0 0 ∷ row 34 0 0 0 0 ∷ row 36 0 0 0 0
-    ∷ row 38 61 1 4 0 ∷ row 38 0 0 0 0 ∷ row 38 0 0 0 0 ∷ row 39 61 1 4 0 ∷ row 37 0 0 0 10 ∷ []
+    row 32 0 0 0 0 ∷ row 32 45 0 2 0 ∷ row 32 0 0 0 0 ∷ row 34 0 0 0 0 ∷ row 34 0 0 0 0
+    ∷ row 36 0 0 0 0 ∷ row 38 61 1 4 0 ∷ row 38 0 0 0 0 ∷ row 38 0 0 0 0 ∷ row 39 61 1 4 0
+    ∷ row 37 0 0 0 10 ∷ []
 
 -- one role of user 0 activated in two sessions
 abbrev pub twice_events : List ℕ
 twice_events = 32 ∷ 0 ∷ 0 ∷ 34 ∷ 0 ∷ 36 ∷ 0 ∷ 0 ∷ 36 ∷ 1 ∷ 0 ∷ 38 ∷ 0 ∷ 0 ∷ 38 ∷ 1 ∷ 0 ∷ []
 
 abbrev pub twice_rows : List Row
-twice_rows = row 32 0 0 0 0 ∷ row 34 0 0 0 0 ∷ row 36 0 0 0 0 ∷ row 36 0 0 0 0 ∷ row 38 0 0 0 0 ∷ row 38 0 0 0 0 ∷ []
+twice_rows =
+    row 32 0 0 0 0 ∷ row 34 0 0 0 0 ∷ row 36 0 0 0 0 ∷ row 36 0 0 0 0
+    ∷ row 38 0 0 0 0 ∷ row 38 0 0 0 0 ∷ []
 
 pub record WorkedCases : Type 0 where
   pub policies : Worked

@@ -1,160 +1,223 @@
 // Cardinality: limits on who is authorised for what, and on what is active.
-ghost use Rattle.std.specs.Prelude.{◌≡◌, [], ◌∷◌, Some, None};
+ghost use Rattle.std.specs.Prelude.{◌≡◌, [], ◌∷◌};
+ghost use Rattle.sets.specs.Sets.{count_below};
 ghost use Rattle.policy.specs.Asking.{ok_unless};
+ghost use Rattle.policy.specs.Entries.{holds};
+ghost use Rattle.policy.specs.Limits.{limit_of_active, within};
 ghost use Rattle.monitor.specs.Answers.{at_top};
-ghost use Rattle.monitor.specs.Effect.{next};
-ghost use Rattle.families.specs.Cardinality.{within, users_of, roles_of, active_of, sessions_of};
-ghost use Rattle.families.specs.Cardinality.{over_users, over_assigned, over_activated, over_by, breach_number, breach_subject, cardinality};
-ghost use Rattle.families.specs.Family.{Exact};
-ghost use Rattle.families.specs.Limits.{cardinality_law};
+ghost use Rattle.monitor.specs.Cells.{seats};
+ghost use Rattle.monitor.specs.Changes.{next};
+ghost use Rattle.monitor.specs.PossibleEvents.{tables_of, cells_of};
+ghost use Rattle.families.specs.Cardinality.{is_over_users, is_over_sessions, over_users, over_sessions};
+ghost use Rattle.families.specs.Cardinality.{over_authorised, over_active};
+ghost use Rattle.families.specs.Cardinality.{violation_of, violation_number, violation_subject, cardinality};
+ghost use Rattle.families.specs.CardinalityLaws.{cardinality_law};
+ghost use Rattle.families.specs.Family.{Exact, by_change};
 ghost use Rattle.std.proofs.Common.{rules};
 
-use monitor::answer::Reason;
-use monitor::asked::Asked;
-use monitor::cells::{Cells, Whose};
-use monitor::rule::Rule;
-use monitor::views::{active_among, using_among};
+use monitor::answers::Reason;
+use monitor::changes::Change;
+use monitor::governed::authority;
+use monitor::possible::PossibleEvent;
+use monitor::rules::Rule;
+use monitor::sessions::Whose;
 use policy::asking::{check, none_of};
-use policy::rows::at_or;
+use policy::rows::{at_or, put};
 use policy::tables::Tables;
-use records::event::Event;
 use sets::RoleSet;
+use thiserror::Error;
 
-// The limit that an event would exceed, and of whom.
-#[derive(Clone, Copy)]
-pub enum Breach {
+/// The limit that an event would exceed, and of whom.
+#[derive(Clone, Copy, Debug, PartialEq, Eq, Error)]
+pub enum Violation {
+    /// More users would be authorised for the role than its limit: 41.
+    #[error("more users would be authorised for role {role} than its limit")]
     UsersOfRole { role: u8 },
+    /// The user would be authorised for more roles than their limit: 42.
+    #[error("user {user} would be authorised for more roles than the limit")]
     RolesOfUser { user: u8 },
+    /// The user would have more roles active than their limit: 43.
+    #[error("user {user} would have more roles active than the limit")]
     ActiveOfUser { user: u8 },
+    /// More sessions would have the role active than its limit: 44.
+    #[error("more sessions would have role {role} active than its limit")]
     SessionsOfRole { role: u8 },
 }
 
-impl Breach {
+impl Violation {
+    /// The number that is answered, 41 to 44.
     pub fn number(self) -> u8
-        ensures { result ≡ breach_number self }
+        ensures { result ≡ violation_number self }
     {
         match self {
-            Breach::UsersOfRole { .. } => 41,
-            Breach::RolesOfUser { .. } => 42,
-            Breach::ActiveOfUser { .. } => 43,
-            Breach::SessionsOfRole { .. } => 44,
+            Violation::UsersOfRole { .. } => 41,
+            Violation::RolesOfUser { .. } => 42,
+            Violation::ActiveOfUser { .. } => 43,
+            Violation::SessionsOfRole { .. } => 44,
         }
     }
 
-    // The role or the user whose limit it is.
+    /// The role or the user whose limit it is.
     pub fn subject(self) -> u8
-        ensures { result ≡ breach_subject self }
+        ensures { result ≡ violation_subject self }
     {
         match self {
-            Breach::UsersOfRole { role } | Breach::SessionsOfRole { role } => role,
-            Breach::RolesOfUser { user } | Breach::ActiveOfUser { user } => user,
+            Violation::UsersOfRole { role } | Violation::SessionsOfRole { role } => role,
+            Violation::RolesOfUser { user } | Violation::ActiveOfUser { user } => user,
         }
     }
 }
 
-// Kept: an impl for each family is what the trait asks, and the gate refuses impls that a macro of our own makes.
-impl From<Breach> for Reason {
-    ghost from_gives = { λ breach reason. reason ≡ at_top (breach_number breach) (breach_subject breach) };
+impl From<Violation> for Reason {
+    ghost from_gives = { λ v reason. reason ≡ at_top (violation_number v) (violation_subject v) };
 
-    fn from(breach: Breach) -> Reason {
-        Reason::at_top(breach.number(), breach.subject())
+    fn from(violation: Violation) -> Reason {
+        Reason::at_top(violation.number(), violation.subject())
     }
 }
 
 // How many users are authorised for the role.
 #[tactic(auto, unfolding(sets::specs::Sets::count_below))]
-fn users_of(cells: &Cells, role: u8) -> u32
-    ensures { result ≡ users_of cells.now role }
+fn users_of(authorised: &[RoleSet; 64], role: u8) -> u32
+    ensures { result ≡ count_below 64 (λ u. holds authorised.now u role) }
 {
     let mut users = 0;
-    // Kept: `filter` and `count` take four times as long.
-    for roles in &cells.authorised {
+    // `filter` and `count` take four times as long.
+    for roles in authorised {
         users += u32::from(roles.contains(role));
     }
     users
 }
 
-// For how many roles the user is authorised.
-fn roles_of(cells: &Cells, user: u8) -> u32
-    ensures { result ≡ roles_of cells.now user }
+// The questions where a user is newly authorised for these roles, with what everyone then is.
+fn check_authorised(
+    tables: &Tables,
+    authorised: &[RoleSet; 64],
+    user: u8,
+    new: RoleSet,
+) -> Result<(), Violation>
+    ensures { result ≡ ok_unless (over_authorised tables.now authorised.now user new.bits) }
 {
-    at_or(&cells.authorised, user, RoleSet::empty()).count()
-}
-
-// How many different roles are active for the user, over all their sessions.
-fn active_of(cells: &Cells, user: u8) -> u32
-    ensures { result ≡ active_of cells.now user }
-{
-    active_among(&cells.sessions, Whose::User { user }).count()
-}
-
-// How many sessions have the role active.
-fn sessions_of(cells: &Cells, role: u8) -> u32
-    ensures { result ≡ sessions_of cells.now role }
-{
-    u32::from(using_among(&cells.sessions, role))
-}
-
-// The lowest role that is over its limit of users.
-fn over_users(tables: &Tables, cells: &Cells) -> Option<u8>
-    ensures { result ≡ over_users tables.now cells.now }
-{
-    (0..32u8).find(|role| {
-        let most = at_or(&tables.limits.users, *role, None);
-        most.is_some_and(|most| users_of(cells, *role) > u32::from(most))
-    })
-}
-
-// The questions to an assignment, put to the cells that it makes.
-fn over_assigned(asked: Asked, user: u8) -> Result<(), Breach>
-    ensures { result ≡ ok_unless (over_assigned asked.entry.policy.now.draft.tables (next asked.entry.policy.now.draft.tables asked.entry.state.now.cells asked.entry.event) user) }
-{
-    let tables = &asked.policy.draft.tables;
-    let cells = asked.moved();
-    none_of(over_users(tables, &cells)).map_err(|role| Breach::UsersOfRole { role })?;
-    let most = at_or(&tables.limits.roles, user, None);
+    let limits = &tables.limits;
+    none_of(over_users(tables, authorised, new)).map_err(|role| Violation::UsersOfRole { role })?;
+    let held = at_or(authorised, user, RoleSet::empty());
     check(
-        most.is_none_or(|most| roles_of(&cells, user) <= u32::from(most)),
-        Breach::RolesOfUser { user },
+        limits
+            .roles(user)
+            .is_none_or(|most| held.count() <= u32::from(most)),
+        Violation::RolesOfUser { user },
     )
 }
 
-// The questions to an activation in a session of the user, put to the cells that it makes.
-fn over_activated(asked: Asked, user: u8, role: u8) -> Result<(), Breach>
-    ensures { result ≡ ok_unless (over_activated asked.entry.policy.now.draft.tables (next asked.entry.policy.now.draft.tables asked.entry.state.now.cells asked.entry.event) user role) }
+// Whether the role is one of these and over its limit of users.
+fn is_over_users(tables: &Tables, authorised: &[RoleSet; 64], roles: RoleSet, role: u8) -> bool
+    ensures { result ≡ is_over_users tables.now authorised.now roles.bits role }
 {
-    let tables = &asked.policy.draft.tables;
-    let cells = asked.moved();
-    let most = at_or(&tables.limits.active, user, None);
-    check(
-        most.is_none_or(|most| active_of(&cells, user) <= u32::from(most)),
-        Breach::ActiveOfUser { user },
-    )?;
-    let most = at_or(&tables.limits.sessions, role, None);
-    check(
-        most.is_none_or(|most| sessions_of(&cells, role) <= u32::from(most)),
-        Breach::SessionsOfRole { role },
-    )
+    roles.contains(role)
+        && tables
+            .limits
+            .users(role)
+            .is_some_and(|most| users_of(authorised, role) > u32::from(most))
 }
 
-// The questions that the event may fail, put to the cells that it makes.
-fn over_by(asked: Asked) -> Result<(), Breach>
-    ensures { result ≡ ok_unless (over_by asked.entry.policy.now.draft.tables asked.entry.state.now.cells asked.entry.event) }
+// The lowest of the roles that is over its limit of users.
+fn over_users(tables: &Tables, authorised: &[RoleSet; 64], roles: RoleSet) -> Option<u8>
+    ensures { result ≡ over_users tables.now authorised.now roles.bits }
 {
-    match asked.event {
-        Event::Assign { user, .. } => over_assigned(asked, user),
-        Event::Activate { session, role } => {
-            let owner = asked.state.session(session).owner();
-            over_activated(asked, owner, role)
+    let mut rest = roles;
+    while let Some(role) = rest.lowest() {
+        if is_over_users(tables, authorised, roles, role) {
+            return Some(role);
         }
-        _ => Ok(()),
+        rest = rest.without(role);
+    }
+    None
+}
+
+// Whether the role is one of these and over its limit of sessions, in the state after the event.
+fn is_over_sessions(possible: PossibleEvent, roles: RoleSet, role: u8) -> bool
+    ensures { result ≡ is_over_sessions (tables_of possible.entry)
+        (next (tables_of possible.entry) (cells_of possible.entry) possible.entry.event)
+        roles.bits role }
+{
+    let Some(most) = possible.tables().limits.sessions(role) else {
+        return false;
+    };
+    roles.contains(role) && possible.using_after(role) > most
+}
+
+// The lowest of the roles that is over its limit of sessions, in the state after the event.
+fn over_sessions(possible: PossibleEvent, roles: RoleSet) -> Option<u8>
+    ensures { result ≡ over_sessions (tables_of possible.entry)
+        (next (tables_of possible.entry) (cells_of possible.entry) possible.entry.event)
+        roles.bits }
+{
+    let mut rest = roles;
+    while let Some(role) = rest.lowest() {
+        if is_over_sessions(possible, roles, role) {
+            return Some(role);
+        }
+        rest = rest.without(role);
+    }
+    None
+}
+
+// Whether the roles active for the user are within the limit, in the state after the event.
+fn is_within_seats(possible: PossibleEvent, user: u8) -> bool
+    ensures { result ≡ within (limit_of_active (tables_of possible.entry).limits user)
+        (seats (next (tables_of possible.entry) (cells_of possible.entry)
+        possible.entry.event) user) }
+{
+    let Some(most) = possible.tables().limits.active(user) else {
+        return true;
+    };
+    possible.active_after(Whose::User { user }).count() <= u32::from(most)
+}
+
+// The questions where these roles have become active for the user, in the state after the event.
+fn check_active(possible: PossibleEvent, user: u8, new: RoleSet) -> Result<(), Violation>
+    ensures { result ≡ ok_unless (over_active (tables_of possible.entry)
+        (next (tables_of possible.entry) (cells_of possible.entry) possible.entry.event)
+        user new.bits) }
+{
+    check(
+        is_within_seats(possible, user),
+        Violation::ActiveOfUser { user },
+    )?;
+    none_of(over_sessions(possible, new)).map_err(|role| Violation::SessionsOfRole { role })
+}
+
+// The questions that the event may fail: put to the state after it, where something is gained.
+fn violation_by(possible: PossibleEvent) -> Result<(), Violation>
+    ensures { result ≡ ok_unless (by_change violation_of (tables_of possible.entry)
+        (cells_of possible.entry) possible.entry.event) }
+{
+    match possible.change {
+        Change::Assigned { user, roles } => {
+            let held = authority(possible.governed.policy(), roles);
+            let new = held.difference(possible.cells().authorised(user));
+            if new.is_empty() {
+                return Ok(());
+            }
+            let mut authorised = possible.cells().authorised;
+            put(&mut authorised, user, held);
+            check_authorised(possible.tables(), &authorised, user, new)
+        }
+        Change::Enabled { .. } => Ok(()),
+        Change::Seated { to, .. } => {
+            let new = possible.gained();
+            if new.is_empty() {
+                return Ok(());
+            }
+            check_active(possible, to.owner(), new)
+        }
     }
 }
 
-#[derive(Clone, Copy)]
+/// The family of limits.
+#[derive(Clone, Copy, Debug)]
 pub struct Cardinality {}
 
-// Kept: as above, an impl for each family.
 impl Rule for Cardinality {
     ghost rules = { λ _. cardinality ∷ [] };
 
@@ -162,8 +225,8 @@ impl Rule for Cardinality {
 
     ghost lawful = { λ x. (cardinality_law, tt) };
 
-    fn consult(&self, asked: Asked) -> Result<(), Reason> {
-        Ok(over_by(asked)?)
+    fn consult(&self, possible: PossibleEvent) -> Result<(), Reason> {
+        Ok(violation_by(possible)?)
     }
 
     fn places(&self) -> u8 {
@@ -172,8 +235,8 @@ impl Rule for Cardinality {
 }
 
 impl Cardinality {
-    // Kept: three families have such a call, each with a theorem of its own; in a trait each would still name and prove it.
-    // How many rules there are: one, which admits a possible event exactly when it allows the state that a grant makes.
+    /// How many rules there are: one. In a state that it allows, it admits a possible event exactly
+    /// when it allows the state that a grant makes.
     pub fn exactness(&self) -> u8
         ensures value { result ≡ 1 }
         ensures law { Exact cardinality }

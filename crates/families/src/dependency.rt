@@ -1,106 +1,94 @@
 // Dependency: each role that an active role depends on is active in some session, of anyone.
-ghost use Rattle.std.specs.Prelude.{◌≡◌, not, ◌&&◌, [], ◌∷◌};
-ghost use Rattle.std.specs.Option.{option_map};
-ghost use Rattle.sets.specs.First.{first_below};
-ghost use Rattle.sets.specs.Sets.{has};
-ghost use Rattle.policy.specs.Seniority.{gathered};
+ghost use Rattle.std.specs.Prelude.{◌≡◌, [], ◌∷◌};
 ghost use Rattle.policy.specs.Asking.{ok_unless};
 ghost use Rattle.monitor.specs.Answers.{at_top};
-ghost use Rattle.monitor.specs.Effect.{put_session};
-ghost use Rattle.families.specs.Dependency.{dependency, unmet_by, unmet_number, unmet_subject, missing, unmet};
-ghost use Rattle.families.specs.Family.{Exact};
-ghost use Rattle.families.specs.Leaning.{dependency_law};
+ghost use Rattle.monitor.specs.PossibleEvents.{tables_of, cells_of};
+ghost use Rattle.families.specs.Dependency.{dependency, violation_of, violation_number, violation_subject, missing_from};
+ghost use Rattle.families.specs.DependencyLaws.{dependency_law};
+ghost use Rattle.families.specs.Family.{Exact, by_change};
 ghost use Rattle.std.proofs.Common.{rules};
 
-use monitor::answer::Reason;
-use monitor::asked::Asked;
-use monitor::cells::Session;
-use monitor::rule::Rule;
+use monitor::answers::Reason;
+use monitor::changes::Change;
+use monitor::possible::PossibleEvent;
+use monitor::rules::Rule;
+use monitor::sessions::Whose;
 use policy::asking::none_of;
 use policy::seniority::gather;
 use policy::tables::Tables;
-use records::event::Event;
 use sets::RoleSet;
+use thiserror::Error;
 
-// Why an event is not admitted.
-#[derive(Clone, Copy)]
-pub enum Unmet {
-    // an active role depends on this one, which would be active in no session
+/// Why an event is not admitted.
+#[derive(Clone, Copy, Debug, PartialEq, Eq, Error)]
+pub enum Violation {
+    /// an active role depends on this one, which would be active in no session
+    #[error("an active role depends on role {role}, which would be active in no session")]
     NotActive { role: u8 },
 }
 
-impl Unmet {
+impl Violation {
+    /// The number that is answered: 61.
     pub fn number(self) -> u8
-        ensures { result ≡ unmet_number self }
+        ensures { result ≡ violation_number self }
     {
         match self {
-            Unmet::NotActive { .. } => 61,
+            Violation::NotActive { .. } => 61,
         }
     }
 
-    // The lowest missing role.
+    /// The lowest missing role.
     pub fn subject(self) -> u8
-        ensures { result ≡ unmet_subject self }
+        ensures { result ≡ violation_subject self }
     {
         match self {
-            Unmet::NotActive { role } => role,
+            Violation::NotActive { role } => role,
         }
     }
 }
 
-// Kept: an impl for each family is what the trait asks, and the gate refuses impls that a macro of our own makes.
-impl From<Unmet> for Reason {
-    ghost from_gives = { λ unmet reason. reason ≡ at_top (unmet_number unmet) (unmet_subject unmet) };
+impl From<Violation> for Reason {
+    ghost from_gives = { λ v reason. reason ≡ at_top (violation_number v) (violation_subject v) };
 
-    fn from(unmet: Unmet) -> Reason {
-        Reason::at_top(unmet.number(), unmet.subject())
+    fn from(violation: Violation) -> Reason {
+        Reason::at_top(violation.number(), violation.subject())
     }
 }
 
 // The lowest role that one of the active roles depends on and that is not among them.
 fn lowest_missing(tables: &Tables, active: RoleSet) -> Option<u8>
-    ensures { result ≡ first_below 32 (λ b. has (gathered tables.now.dependencies.needs active 32) b && not (has active.bits b)) }
+    ensures { result ≡ missing_from tables.now active.bits }
 {
     gather(&tables.dependencies.needs, active)
         .difference(active)
         .lowest()
 }
 
-// Passes where nothing is missing once another session stands in the place of one.
-fn met_after(asked: Asked, session: u8, changed: Session) -> Result<(), Unmet>
-    ensures { result ≡ ok_unless (option_map unmet (missing asked.entry.policy.now.draft.tables (put_session asked.entry.state.now.cells session changed))) }
+// The question put to the state after the event; a closing is judged once all its roles have ended
+// together.
+fn violation_by(possible: PossibleEvent) -> Result<(), Violation>
+    ensures { result ≡ ok_unless (by_change violation_of (tables_of possible.entry)
+        (cells_of possible.entry) possible.entry.event) }
 {
-    let active = asked.state.active_after(session, changed);
-    none_of(lowest_missing(&asked.policy.draft.tables, active)).map_err(|role| Unmet::NotActive {
-        role,
-    })
-}
-
-// The question put to the state after the event; a close is judged once all its roles have ended together.
-fn unmet_by(asked: Asked) -> Result<(), Unmet>
-    ensures { result ≡ ok_unless (unmet_by asked.entry.policy.now.draft.tables asked.entry.state.now.cells asked.entry.event) }
-{
-    let state = asked.state;
-    match asked.event {
-        Event::Close { session } => met_after(asked, session, Session::Closed),
-        Event::Activate { session, role } => met_after(
-            asked,
-            session,
-            state.session(session).activated(role),
-        ),
-        Event::Deactivate { session, role } => met_after(
-            asked,
-            session,
-            state.session(session).deactivated(role),
-        ),
+    match possible.change {
+        Change::Seated { .. } => {
+            let changed = possible.gained().union(possible.lost());
+            if changed.is_empty() {
+                return Ok(());
+            }
+            let active = possible.active_after(Whose::Anyone);
+            none_of(lowest_missing(possible.tables(), active)).map_err(|role| Violation::NotActive {
+                role,
+            })
+        }
         _ => Ok(()),
     }
 }
 
-#[derive(Clone, Copy)]
+/// The family of dependencies between active roles.
+#[derive(Clone, Copy, Debug)]
 pub struct Dependency {}
 
-// Kept: as above, an impl for each family.
 impl Rule for Dependency {
     ghost rules = { λ _. dependency ∷ [] };
 
@@ -108,8 +96,8 @@ impl Rule for Dependency {
 
     ghost lawful = { λ x. (dependency_law, tt) };
 
-    fn consult(&self, asked: Asked) -> Result<(), Reason> {
-        Ok(unmet_by(asked)?)
+    fn consult(&self, possible: PossibleEvent) -> Result<(), Reason> {
+        Ok(violation_by(possible)?)
     }
 
     fn places(&self) -> u8 {
@@ -118,8 +106,8 @@ impl Rule for Dependency {
 }
 
 impl Dependency {
-    // Kept: as in cardinality, the call carries a theorem of its own.
-    // In a state that it allows, dependency fails to admit a possible event exactly when it would not allow the state after.
+    /// How many rules there are: one. In a state that it allows, it admits a possible event exactly
+    /// when it allows the state that a grant makes.
     pub fn exactness(&self) -> u8
         ensures value { result ≡ 1 }
         ensures law { Exact dependency }

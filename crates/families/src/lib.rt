@@ -1,4 +1,4 @@
-// The rules that archives write: limits, separation of duty, precedence and dependency, each a module of its own.
+// The rules that archives write: limits, separation of duty, precedence and dependency.
 #![tactic(auto)]
 
 pub mod cardinality;

@@ -3,104 +3,120 @@ ghost use Rattle.std.specs.Prelude.{◌≡◌, [], ◌∷◌};
 ghost use Rattle.sets.specs.Sets.{has};
 ghost use Rattle.policy.specs.Asking.{ok_unless};
 ghost use Rattle.monitor.specs.Answers.{at_top};
-ghost use Rattle.families.specs.Precedence.{precedence, condition_number, condition_row, required_set, lack, assigned_in, enable_lack, assign_lack, activate_lack, lacking_by, lack_number, lack_subject};
-ghost use Rattle.families.specs.Required.{precedence_law};
+ghost use Rattle.monitor.specs.PossibleEvents.{tables_of, cells_of};
+ghost use Rattle.families.specs.Precedence.{precedence, requirement_number, requirement_row, required_set, unmet_requirement};
+ghost use Rattle.families.specs.Precedence.{assigned_in, unmet_at_enabling, unmet_at_assignment, unmet_at_activation};
+ghost use Rattle.families.specs.Precedence.{violation_by, violation_number, violation_subject};
+ghost use Rattle.families.specs.PrecedenceLaws.{precedence_law};
 ghost use Rattle.std.proofs.Common.{rules};
 
-use monitor::answer::Reason;
-use monitor::asked::Asked;
-use monitor::cells::{Session, Whose};
-use monitor::rule::Rule;
+use monitor::answers::Reason;
+use monitor::possible::PossibleEvent;
+use monitor::rules::Rule;
+use monitor::sessions::{Session, Whose};
 use policy::asking::none_of;
 use policy::rows::at_or;
-use policy::tables::Tables;
 use records::event::Event;
 use sets::RoleSet;
+use thiserror::Error;
 
-// How the roles that a role requires have to stand: six kinds of requirement.
-#[derive(Clone, Copy)]
-pub enum Condition {
+/// How the roles that a role requires have to stand.
+#[derive(Clone, Copy, Debug, PartialEq, Eq)]
+pub enum RequirementKind {
+    /// enabled, before the role is enabled
     Enabled,
+    /// assigned to the same user, before the role is assigned
     AssignedToUser,
+    /// assigned to any user, before the role is assigned
     AssignedToAny,
+    /// active for any user, before the role is activated
     ActiveForAny,
+    /// active in the same session, before the role is activated
     ActiveInSession,
+    /// active for the session's owner, in any session, before the role is activated
     ActiveForOwner,
 }
 
-impl Condition {
-    // The number that is answered.
+impl RequirementKind {
+    /// The number that is answered, 51 to 56.
     pub fn number(self) -> u8
-        ensures { result ≡ condition_number self }
+        ensures { result ≡ requirement_number self }
     {
         match self {
-            Condition::Enabled => 51,
-            Condition::AssignedToUser => 52,
-            Condition::AssignedToAny => 53,
-            Condition::ActiveForAny => 54,
-            Condition::ActiveInSession => 55,
-            Condition::ActiveForOwner => 56,
+            RequirementKind::Enabled => 51,
+            RequirementKind::AssignedToUser => 52,
+            RequirementKind::AssignedToAny => 53,
+            RequirementKind::ActiveForAny => 54,
+            RequirementKind::ActiveInSession => 55,
+            RequirementKind::ActiveForOwner => 56,
         }
     }
 
     // Where a policy keeps the roles that are required so.
     fn row(self) -> u8
-        ensures { result ≡ condition_row self }
+        ensures { result ≡ requirement_row self }
     {
         self as u8
     }
 }
 
-// The lowest required role that does not stand, and how it should.
-#[derive(Clone, Copy)]
-pub struct Lack {
-    pub condition: Condition,
+/// The lowest required role that does not stand, and how it should.
+#[derive(Clone, Copy, Debug, PartialEq, Eq, Error)]
+#[error("role {role} is required and does not stand: {kind:?}")]
+pub struct Violation {
+    /// How the role is required to stand.
+    pub kind: RequirementKind,
+    /// The required role.
     pub role: u8,
 }
 
-impl Lack {
-    // The number that is answered.
+impl Violation {
+    /// The number that is answered, 51 to 56.
     pub fn number(self) -> u8
-        ensures { result ≡ lack_number self }
+        ensures { result ≡ violation_number self }
     {
-        self.condition.number()
+        self.kind.number()
     }
 
-    // The required role.
+    /// The required role.
     pub fn subject(self) -> u8
-        ensures { result ≡ lack_subject self }
+        ensures { result ≡ violation_subject self }
     {
         self.role
     }
 }
 
-// Kept: an impl for each family is what the trait asks, and the gate refuses impls that a macro of our own makes.
-impl From<Lack> for Reason {
-    ghost from_gives = { λ lack reason. reason ≡ at_top (lack_number lack) (lack_subject lack) };
+impl From<Violation> for Reason {
+    ghost from_gives = { λ v reason. reason ≡ at_top (violation_number v) (violation_subject v) };
 
-    fn from(lack: Lack) -> Reason {
-        Reason::at_top(lack.number(), lack.subject())
+    fn from(violation: Violation) -> Reason {
+        Reason::at_top(violation.number(), violation.subject())
     }
 }
 
 // The roles that a role requires to stand so.
-fn required_set(tables: &Tables, condition: Condition, role: u8) -> RoleSet
-    ensures { result ≡ required_set tables.now condition role }
+fn required_set(possible: PossibleEvent, kind: RequirementKind, role: u8) -> RoleSet
+    ensures { result ≡ required_set (tables_of possible.entry) kind role }
 {
     at_or(
-        &tables.requirements.sets[usize::from(condition.row())],
+        &possible.tables().requirements.sets[usize::from(kind.row())],
         role,
         RoleSet::empty(),
     )
 }
 
 // Passes where every role that is required so is among those that stand.
-fn require(asked: Asked, condition: Condition, role: u8, standing: RoleSet) -> Result<(), Lack>
-    ensures { result ≡ ok_unless (lack asked.entry.policy.now.draft.tables condition role (has standing.bits)) }
+fn require(
+    possible: PossibleEvent,
+    kind: RequirementKind,
+    role: u8,
+    standing: RoleSet,
+) -> Result<(), Violation>
+    ensures { result ≡ ok_unless (unmet_requirement (tables_of possible.entry) kind role
+        (has standing.bits)) }
 {
-    let required = required_set(&asked.policy.draft.tables, condition, role);
-    let missing = required.difference(standing);
-    none_of(missing.lowest()).map_err(|role| Lack { condition, role })
+    let missing = required_set(possible, kind, role).difference(standing);
+    none_of(missing.lowest()).map_err(|role| Violation { kind, role })
 }
 
 // The roles assigned to some user.
@@ -113,62 +129,67 @@ fn assigned_among(users: &[RoleSet; 64]) -> RoleSet
 }
 
 // The question to the enabling of a role.
-fn enable_lack(asked: Asked, role: u8) -> Result<(), Lack>
-    ensures { result ≡ ok_unless (enable_lack asked.entry.policy.now.draft.tables asked.entry.state.now.cells role) }
+fn unmet_at_enabling(possible: PossibleEvent, role: u8) -> Result<(), Violation>
+    ensures { result ≡ ok_unless (unmet_at_enabling (tables_of possible.entry)
+        (cells_of possible.entry) role) }
 {
-    require(asked, Condition::Enabled, role, asked.state.cells.enabled)
+    let enabled = possible.cells().enabled;
+    require(possible, RequirementKind::Enabled, role, enabled)
 }
 
 // The questions to an assignment.
-fn assign_lack(asked: Asked, user: u8, role: u8) -> Result<(), Lack>
-    ensures { result ≡ ok_unless (assign_lack asked.entry.policy.now.draft.tables asked.entry.state.now.cells user role) }
+fn unmet_at_assignment(possible: PossibleEvent, user: u8, role: u8) -> Result<(), Violation>
+    ensures { result ≡ ok_unless (unmet_at_assignment (tables_of possible.entry)
+        (cells_of possible.entry) user role) }
 {
-    let own = asked.state.assigned(user);
-    require(asked, Condition::AssignedToUser, role, own)?;
-    let anywhere = assigned_among(&asked.state.cells.assigned);
-    require(asked, Condition::AssignedToAny, role, anywhere)
+    let cells = possible.cells();
+    let own = cells.assigned(user);
+    require(possible, RequirementKind::AssignedToUser, role, own)?;
+    let anywhere = assigned_among(&cells.assigned);
+    require(possible, RequirementKind::AssignedToAny, role, anywhere)
 }
 
 // The questions to an activation in a session.
-fn activate_lack(asked: Asked, role: u8, session: Session) -> Result<(), Lack>
-    ensures { result ≡ ok_unless (activate_lack asked.entry.policy.now.draft.tables asked.entry.state.now.cells role session) }
+fn unmet_at_activation(possible: PossibleEvent, role: u8, session: Session) -> Result<(), Violation>
+    ensures { result ≡ ok_unless (unmet_at_activation (tables_of possible.entry)
+        (cells_of possible.entry) role session) }
 {
-    let Session::Open { owner, active } = session else {
-        return Ok(());
-    };
-    let tables = &asked.policy.draft.tables;
-    let required = required_set(tables, Condition::ActiveForAny, role)
-        .union(required_set(tables, Condition::ActiveInSession, role))
-        .union(required_set(tables, Condition::ActiveForOwner, role));
+    let required = required_set(possible, RequirementKind::ActiveForAny, role)
+        .union(required_set(possible, RequirementKind::ActiveInSession, role))
+        .union(required_set(possible, RequirementKind::ActiveForOwner, role));
     // Where nothing is required there is no need to look through the sessions.
     if required.is_empty() {
         return Ok(());
     }
-    let anyone = asked.state.active_in(Whose::Anyone);
-    require(asked, Condition::ActiveForAny, role, anyone)?;
-    require(asked, Condition::ActiveInSession, role, active)?;
-    let owned = asked.state.active_in(Whose::User { user: owner });
-    require(asked, Condition::ActiveForOwner, role, owned)
+    let anyone = possible.governed.active_in(Whose::Anyone);
+    require(possible, RequirementKind::ActiveForAny, role, anyone)?;
+    let active = session.active();
+    require(possible, RequirementKind::ActiveInSession, role, active)?;
+    let owner = session.owner();
+    let owned = possible.governed.active_in(Whose::User { user: owner });
+    require(possible, RequirementKind::ActiveForOwner, role, owned)
 }
 
 // The questions that the event may fail.
-fn lack_by(asked: Asked) -> Result<(), Lack>
-    ensures { result ≡ ok_unless (lacking_by asked.entry.policy.now.draft.tables asked.entry.state.now.cells asked.entry.event) }
+fn violation_by(possible: PossibleEvent) -> Result<(), Violation>
+    ensures { result ≡ ok_unless (violation_by (tables_of possible.entry) (cells_of possible.entry)
+        possible.entry.event) }
 {
-    match asked.event {
-        Event::Enable { role } => enable_lack(asked, role),
-        Event::Assign { user, role } => assign_lack(asked, user, role),
+    let cells = possible.cells();
+    match possible.event {
+        Event::Enable { role } => unmet_at_enabling(possible, role),
+        Event::Assign { user, role } => unmet_at_assignment(possible, user, role),
         Event::Activate { session, role } => {
-            activate_lack(asked, role, asked.state.session(session))
+            unmet_at_activation(possible, role, cells.session(session))
         }
         _ => Ok(()),
     }
 }
 
-#[derive(Clone, Copy)]
+/// The family of six kinds of requirement.
+#[derive(Clone, Copy, Debug)]
 pub struct Precedence {}
 
-// Kept: as above, an impl for each family.
 impl Rule for Precedence {
     ghost rules = { λ _. precedence ∷ [] };
 
@@ -176,8 +197,8 @@ impl Rule for Precedence {
 
     ghost lawful = { λ x. (precedence_law, tt) };
 
-    fn consult(&self, asked: Asked) -> Result<(), Reason> {
-        Ok(lack_by(asked)?)
+    fn consult(&self, possible: PossibleEvent) -> Result<(), Reason> {
+        Ok(violation_by(possible)?)
     }
 
     fn places(&self) -> u8 {

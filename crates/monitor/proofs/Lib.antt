@@ -1,12 +1,2 @@
-pub mod Folded
-pub mod Begun
-pub mod Entitled
-pub mod Ledgers
-pub mod Situations
-pub mod Sessions
-pub mod Steps
-pub mod Counting
-pub mod Lives
-pub mod Filling
-pub mod Joining
+pub mod Asking
 pub mod Piles

@@ -1,36 +1,45 @@
 -- Who is authorised for what, and how a state is tied to its policy. Assumes nothing.
-use Rattle.std.specs.Prelude.{◌≡◌, ℕ, ◌<◌, true, get_or, slice_index_or}
+use Rattle.std.specs.Prelude.{◌≡◌, ℕ, ◌<◌, ◌≤◌, true}
 use Rattle.sets.specs.Sets.{has}
 use Rattle.sets.specs.Aliases.{RoleSet}
 use Rattle.policy.specs.declared.tables.Tables.{Tables}
-use Rattle.policy.specs.Entries.{no_roles, inherits}
-use Rattle.policy.specs.Seniority.{Senior, gathered, closure}
-use Rattle.monitor.specs.declared.cells.Cells.{Cells}
-use Rattle.monitor.specs.Cells.{is_assigned, Sound}
+use Rattle.policy.specs.Entries.{inherits}
+use Rattle.policy.specs.Seniority.{Senior, rows_union, closure}
+use Rattle.monitor.specs.declared.states.Cells.{Cells}
+use Rattle.monitor.specs.Cells.{assigned_roles, authorised_roles, is_assigned, session_at, Sound}
+use Rattle.monitor.specs.Sessions.{active}
 
 -- a user is authorised for b when assigned some role senior to b
 abbrev pub Authorised : Tables → Cells → ℕ → ℕ → Type 0
 Authorised t c u b = (a : ℕ) × (is_assigned c u a ≡ true) × Senior (inherits t) a b
 
 -- the roles for which a set of assigned roles authorises
-abbrev pub given : Tables → RoleSet → RoleSet
-given t assigned = record { bits = gathered (closure t.hierarchy.juniors) assigned 32 }
+abbrev pub authority_of : Tables → RoleSet → RoleSet
+authority_of t assigned = record { bits = rows_union (closure t.hierarchy.juniors) assigned 32 }
 
 -- these are exactly the roles that some assigned role is senior to
 pub record Gives (t : Tables) (assigned roles : RoleSet) : Type 0 where
-  pub each_by_a_senior : (b : ℕ) → has roles.bits b ≡ true → (a : ℕ) × (has assigned.bits a ≡ true) × Senior (inherits t) a b
-  pub every_junior : (a b : ℕ) → a < 32 → has assigned.bits a ≡ true → Senior (inherits t) a b → has roles.bits b ≡ true
+  pub each_by_a_senior : (b : ℕ) → has roles.bits b ≡ true
+      → (a : ℕ) × (has assigned.bits a ≡ true) × Senior (inherits t) a b
+  pub every_junior : (a b : ℕ) → a < 32 → has assigned.bits a ≡ true
+      → Senior (inherits t) a b → has roles.bits b ≡ true
 
 -- the stored authorised roles are those that the assigned ones give
 abbrev pub Stored : Tables → Cells → Type 0
-Stored t c = (u : ℕ) → (get_or c.authorised u no_roles).bits ≡ (given t (slice_index_or c.assigned u no_roles)).bits
+Stored t c = (u : ℕ)
+    → (authorised_roles c u).bits ≡ (authority_of t (assigned_roles c u)).bits
 
--- only roles of the policy are assigned
+-- only roles of the policy are assigned, and only to its users
 abbrev pub Ranged : Tables → Cells → Type 0
-Ranged t c = (u r : ℕ) → is_assigned c u r ≡ true → r < t.sizes.roles
+Ranged t c = (u r : ℕ) → is_assigned c u r ≡ true → (u < t.sizes.users) × (r < t.sizes.roles)
+
+-- past the policy's sessions nothing is active
+abbrev pub Unused : Tables → Cells → Type 0
+Unused t c = (s : ℕ) → t.sizes.sessions ≤ s → active (session_at c s) ≡ 0
 
 -- a state that a monitor of this policy can hold
 pub record Fits (t : Tables) (c : Cells) : Type 0 where
   pub sound : Sound c
   pub stored : Stored t c
   pub ranged : Ranged t c
+  pub unused : Unused t c

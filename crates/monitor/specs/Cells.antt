@@ -1,33 +1,27 @@
 -- What stands in a state, and what holds in every state. Assumes nothing.
---   active, owner      of a session; a closed one has no active role
---   is_assigned ..     what stands in the cells
---   active_in          the roles active in anyone's sessions, or in a user's
---   sessions_using     how many sessions have a role active
-use Rattle.std.specs.Prelude.{◌≡◌, ℕ, ◌+◌, ◌<◌, Bool, true, false, cond, List, [], ◌∷◌, length, replicate, ◌==◌, slice_index_or}
-use Rattle.sets.specs.Sets.{has, union}
+--   is_assigned ..      what stands in the cells
+--   active_roles        the roles active in anyone's sessions, or in a user's
+--   seats, using        what a limit bounds: the different roles active for a user, and the
+--                       sessions that have a role active
+use Rattle.std.specs.Prelude.{◌≡◌, ℕ, ◌<◌, Bool, true, length, replicate, slice_index_or}
+use Rattle.sets.specs.Aliases.{RoleSet}
+use Rattle.sets.specs.Sets.{has, count_below}
 use Rattle.policy.specs.Entries.{no_roles, holds}
-use Rattle.monitor.specs.declared.cells.Cells.{Cells}
-use Rattle.monitor.specs.declared.cells.Session.{Session}
-use Rattle.monitor.specs.declared.cells.Session.TheVariants.{Closed, Open}
-use Rattle.monitor.specs.declared.cells.Whose.{Whose}
-use Rattle.monitor.specs.declared.cells.Whose.TheVariants.{Anyone, User}
-
-abbrev pub active : Session → ℕ
-active Closed = 0
-active (Open o a) = a.bits
-
-abbrev pub owner : Session → ℕ
-owner Closed = 0
-owner (Open o a) = o
-
--- is the session one of those that are meant
-abbrev pub counts : Whose → Session → Bool
-counts Anyone x = true
-counts (User u) Closed = false
-counts (User u) (Open o a) = o == u
+use Rattle.monitor.specs.declared.states.Cells.{Cells}
+use Rattle.monitor.specs.declared.sessions.Session.{Session}
+use Rattle.monitor.specs.declared.sessions.Session.TheVariants.{Closed}
+use Rattle.monitor.specs.declared.sessions.Whose.{Whose}
+use Rattle.monitor.specs.declared.sessions.Whose.TheVariants.{User}
+use Rattle.monitor.specs.Sessions.{active, owner, active_in, sessions_using}
 
 abbrev pub session_at : Cells → ℕ → Session
 session_at c s = slice_index_or c.sessions s Closed
+
+abbrev pub assigned_roles : Cells → ℕ → RoleSet
+assigned_roles c u = slice_index_or c.assigned u no_roles
+
+abbrev pub authorised_roles : Cells → ℕ → RoleSet
+authorised_roles c u = slice_index_or c.authorised u no_roles
 
 abbrev pub is_assigned : Cells → ℕ → ℕ → Bool
 is_assigned c u r = holds c.assigned u r
@@ -41,22 +35,24 @@ is_enabled c r = has c.enabled.bits r
 abbrev pub is_active : Cells → ℕ → ℕ → Bool
 is_active c s r = has (active (session_at c s)) r
 
--- the roles active in the sessions that are meant
-abbrev pub active_in : Whose → List Session → ℕ
-active_in w [] = 0
-active_in w (x ∷ xs) = union (cond (counts w x) (active x) 0) (active_in w xs)
+-- the role is active in one of the sessions that are meant
+abbrev pub is_active_for : Cells → Whose → ℕ → Bool
+is_active_for c w r = has (active_in w c.sessions) r
 
-abbrev pub tally : Bool → ℕ
-tally b = cond b 1 0
+abbrev pub seats : Cells → ℕ → ℕ
+seats c u = count_below 32 (is_active_for c (User u))
 
--- how many sessions have the role active
-abbrev pub sessions_using : List Session → ℕ → ℕ
-sessions_using [] r = 0
-sessions_using (x ∷ xs) r = tally (has (active x) r) + sessions_using xs r
+abbrev pub using : Cells → ℕ → ℕ
+using c r = sessions_using c.sessions r
 
 -- no assignments, all roles disabled, all sessions closed
 unfoldable pub blank : Cells
-blank = record { assigned = replicate 64 no_roles; authorised = replicate 64 no_roles; enabled = no_roles; sessions = replicate 64 Closed }
+blank = record {
+  assigned = replicate 64 no_roles;
+  authorised = replicate 64 no_roles;
+  enabled = no_roles;
+  sessions = replicate 64 Closed;
+}
 
 -- there are cells for 64 users and 64 sessions
 abbrev pub Wide : Cells → Type 0

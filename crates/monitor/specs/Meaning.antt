@@ -1,19 +1,20 @@
 -- What a rule means, its laws, and what a pile of rules rules. Assumes nothing.
---   Meaning    the states that a rule allows, the possible events that it admits, and what it names for others
+--   Meaning    the states that a rule allows, the possible events that it admits, and what it
+--              names for others
 --   Law        what each rule shows, for every checked policy
 --   ruling     the answer of a pile: that of the topmost rule that does not admit the event
--- A pile is one rule, or two piles, the upper above the lower. A place counts its rules from 1 at the top; 255 stands for
--- every place past 254.
-use Rattle.std.specs.Prelude.{◌≡◌, ℕ, ◌+◌, ◌≤◌, min, Bool, true, cond, List, [], ◌∷◌, Ok, Err, Result}
+-- A pile is one rule, or two piles, the upper above the lower. A place counts its rules from 1 at
+-- the top; 255 stands for every place past 254.
+use Rattle.std.specs.Prelude.{◌≡◌, ℕ, ◌+◌, ◌≤◌, min, Bool, true, if◌then◌else◌, List, [], ◌∷◌, Ok, Err, Result}
 use Rattle.records.specs.declared.event.Event.{Event}
 use Rattle.policy.specs.declared.tables.Tables.{Tables}
 use Rattle.policy.specs.Questions.{Passes}
 use Rattle.policy.specs.WellFormed.{WellFormed}
-use Rattle.monitor.specs.declared.answer.Reason.{Reason}
-use Rattle.monitor.specs.declared.cells.Cells.{Cells}
+use Rattle.monitor.specs.declared.answers.Reason.{Reason}
+use Rattle.monitor.specs.declared.states.Cells.{Cells}
 use Rattle.monitor.specs.Authority.{Fits}
 use Rattle.monitor.specs.Cells.{blank}
-use Rattle.monitor.specs.Effect.{next}
+use Rattle.monitor.specs.Changes.{next}
 use Rattle.monitor.specs.Possible.{Possible}
 
 pub record Meaning : Type 1 where
@@ -31,10 +32,11 @@ pub record Law (m : Meaning) : Type 0 where
   -- it allows the new state
   pub fresh : (t : Tables) → Lawful t → m.allowed t blank
   -- from a state that it allows, a possible event that it admits leads to a state that it allows
-  pub keeps : (t : Tables) (c : Cells) (e : Event) → Lawful t → Fits t c → Possible t c e → m.allowed t c → m.admits t c e ≡ true
-      → m.allowed t (next t c e)
+  pub keeps : (t : Tables) (c : Cells) (e : Event) → Lawful t → Fits t c → Possible t c e
+      → m.allowed t c → m.admits t c e ≡ true → m.allowed t (next t c e)
   -- its number is never that of a grant, and fits a byte
-  pub named : (t : Tables) (c : Cells) (e : Event) → (1 ≤ m.number t c e) × (m.number t c e ≤ 255)
+  pub named : (t : Tables) (c : Cells) (e : Event)
+      → (1 ≤ m.number t c e) × (m.number t c e ≤ 255)
 
 abbrev pub Every : (Meaning → Type 0) → List Meaning → Type 0
 Every P [] = Unit {0}
@@ -56,4 +58,5 @@ own_reason m t c e = record { number = m.number t c e; subject = m.subject t c e
 
 abbrev pub ruling : List Meaning → Tables → Cells → Event → Ruling
 ruling [] t c e = Ok tt
-ruling (m ∷ ms) t c e = cond (m.admits t c e) (deeper 1 (ruling ms t c e)) (Err (own_reason m t c e))
+ruling (m ∷ ms) t c e =
+    if m.admits t c e then deeper 1 (ruling ms t c e) else Err (own_reason m t c e)

@@ -1,18 +1,30 @@
 // How an event is decided, for any pile of rules.
 #![tactic(auto)]
 
-pub mod answer;
-pub mod asked;
-pub mod cells;
-pub mod decide;
-pub mod effect;
-pub mod ledger;
-pub mod own;
-pub mod pair;
+pub mod answers;
+pub mod changes;
+pub mod governed;
+pub mod monitors;
+pub mod own_rules;
+pub mod pairs;
 pub mod possible;
-pub mod row;
-pub mod rule;
+pub mod rows;
+pub mod rules;
 pub mod run;
-pub mod state;
-pub mod ticket;
-pub mod views;
+pub mod sessions;
+pub mod states;
+pub mod tickets;
+
+pub use answers::{Answer, Impossibility, Reason, Refusal};
+pub use changes::Change;
+pub use governed::GovernedState;
+pub use monitors::Monitor;
+pub use own_rules::{Objection, Own, OwnRule};
+pub use pairs::Pair;
+pub use possible::PossibleEvent;
+pub use rows::Row;
+pub use rules::Rule;
+pub use run::{Outcome, Stop};
+pub use sessions::{Session, Whose};
+pub use states::{Cells, State};
+pub use tickets::Ticket;

@@ -1,140 +1,221 @@
 // Whether an event is possible: its questions, in their order.
 ghost use Rattle.std.specs.Prelude.{◌≡◌};
-ghost use Rattle.records.specs.declared.event.Event.TheVariants.{Assign, Deassign, Disable};
 ghost use Rattle.policy.specs.Asking.{ok_unless};
-ghost use Rattle.monitor.specs.Authority.{given, Gives};
-ghost use Rattle.monitor.specs.Possible.{hindrance, lost_with, may_activate, may_deactivate};
+ghost use Rattle.monitor.specs.Changes.{change_of};
+ghost use Rattle.monitor.specs.Governed.{tables_of, cells_of};
+ghost use Rattle.monitor.specs.Possible.{Possible, impossibility, in_range, session_question, lost_authority};
 
-use crate::answer::Hindrance;
-use crate::asked::Situation;
-use crate::cells::{Session, Whose};
-use policy::approved::Approved;
+use crate::answers::Impossibility;
+use crate::changes::Change;
+use crate::governed::{GovernedState, authority};
+use crate::sessions::{Session, Whose, active_with, using_with};
+use crate::states::Cells;
 use policy::asking::{check, none_of};
+use policy::tables::{Sizes, Tables};
 use records::event::Event;
 use sets::RoleSet;
 
-// The roles for which a set of assigned roles authorises.
-pub fn authority(policy: &Approved, assigned: RoleSet) -> RoleSet
-    ensures answer { result ≡ given policy.now.draft.tables assigned }
-    ensures law { Gives policy.now.draft.tables assigned result }
-{
-    policy.seniority.below(assigned)
+/// An event that is possible in the state that it is asked in.
+#[derive(Clone, Copy)]
+pub struct PossibleEvent<'a> {
+    /// The state that it is asked in, under its policy.
+    pub governed: &'a GovernedState,
+    /// The event.
+    pub event: Event,
+    /// What the event changes.
+    pub change: Change,
+    ghost possible: { Possible (tables_of governed.now) (cells_of governed.now) event },
+    ghost makes: { change ≡ change_of (cells_of governed.now) event },
 }
 
-// The questions to a deactivation in a session, once its numbers are in range.
-fn may_deactivate(role: u8, session: Session) -> Result<(), Hindrance>
-    ensures { result ≡ ok_unless (may_deactivate role session) }
+// Whether each number of the event is in range.
+fn is_in_range(sizes: Sizes, event: Event) -> bool
+    ensures { result ≡ in_range sizes event }
 {
-    match session {
-        Session::Closed => Err(Hindrance::NotOpen),
-        Session::Open { active, .. } => check(active.contains(role), Hindrance::NotActive),
+    match event {
+        Event::Assign { user, role } | Event::Deassign { user, role } => {
+            user < sizes.users && role < sizes.roles
+        }
+        Event::Enable { role } | Event::Disable { role } => role < sizes.roles,
+        Event::Open { session, user } => session < sizes.sessions && user < sizes.users,
+        Event::Close { session } => session < sizes.sessions,
+        Event::Activate { session, role } | Event::Deactivate { session, role } => {
+            session < sizes.sessions && role < sizes.roles
+        }
     }
 }
 
-impl<'a> Situation<'a> {
+// The questions to an event that concerns a session, by the state of the session and the event.
+fn ask_session(cells: &Cells, session: Session, event: Event) -> Result<(), Impossibility>
+    ensures { result ≡ ok_unless (session_question cells.now session event) }
+{
+    match (session, event) {
+        (Session::Closed, Event::Open { .. }) => Ok(()),
+        (Session::Open { .. }, Event::Open { .. }) => Err(Impossibility::AlreadyOpen),
+        (Session::Closed, _) => Err(Impossibility::NotOpen),
+        (Session::Open { owner, active }, Event::Activate { role, .. }) => {
+            check(cells.enabled.contains(role), Impossibility::RoleDisabled)?;
+            check(
+                cells.authorised(owner).contains(role),
+                Impossibility::NotAuthorised,
+            )?;
+            check(!active.contains(role), Impossibility::AlreadyActive)
+        }
+        (Session::Open { active, .. }, Event::Deactivate { role, .. }) => {
+            check(active.contains(role), Impossibility::NotActive)
+        }
+        (Session::Open { .. }, _) => Ok(()),
+    }
+}
+
+impl GovernedState {
     // The lowest role active for the user that loses its authority with the assignment of the role.
-    fn lost(self, user: u8, role: u8) -> Option<u8>
-        ensures { result ≡ lost_with self.entry.policy.now.draft.tables self.entry.state.now.cells user role }
+    fn lost_authority(&self, user: u8, role: u8) -> Option<u8>
+        ensures { result ≡ lost_authority (tables_of self.now) (cells_of self.now) user role }
     {
-        let left = authority(self.policy, self.state.assigned(user).without(role));
-        self.state
-            .active_in(Whose::User { user })
-            .difference(left)
+        let cells = self.cells();
+        let kept = authority(&self.policy, cells.assigned(user).without(role));
+        self.active_in(Whose::User { user })
+            .difference(kept)
             .lowest()
     }
 
-    // The questions to an assignment.
-    fn may_assign(self, user: u8, role: u8) -> Result<(), Hindrance>
-        ensures { result ≡ ok_unless (hindrance self.entry.policy.now.draft.tables self.entry.state.now.cells (Assign user role)) }
+    /// The first question that the event fails, where it fails one.
+    ///
+    /// # Errors
+    ///
+    /// Why the event is impossible in this state.
+    pub fn possible(&self, event: Event) -> Result<(), Impossibility>
+        ensures { result
+            ≡ ok_unless (impossibility (tables_of self.now) (cells_of self.now) event) }
     {
-        let sizes = self.policy.draft.tables.sizes;
-        let in_range = user < sizes.users && role < sizes.roles;
-        check(in_range, Hindrance::OutOfRange)?;
-        let held = self.state.authorised(user);
-        check(!held.contains(role), Hindrance::AlreadyAuthorised)
-    }
-
-    // The questions to the end of an assignment.
-    fn may_deassign(self, user: u8, role: u8) -> Result<(), Hindrance>
-        ensures { result ≡ ok_unless (hindrance self.entry.policy.now.draft.tables self.entry.state.now.cells (Deassign user role)) }
-    {
-        let sizes = self.policy.draft.tables.sizes;
-        let in_range = user < sizes.users && role < sizes.roles;
-        check(in_range, Hindrance::OutOfRange)?;
-        let held = self.state.assigned(user);
-        check(held.contains(role), Hindrance::NotAssigned)?;
-        none_of(
-            self.lost(user, role)
-                .map(|role| Hindrance::StillActive { role }),
-        )
-    }
-
-    // The questions to the disabling of a role.
-    fn may_disable(self, role: u8) -> Result<(), Hindrance>
-        ensures { result ≡ ok_unless (hindrance self.entry.policy.now.draft.tables self.entry.state.now.cells (Disable role)) }
-    {
-        let roles = self.policy.draft.tables.sizes.roles;
-        check(role < roles, Hindrance::OutOfRange)?;
-        let enabled = self.state.cells.enabled;
-        check(enabled.contains(role), Hindrance::NotEnabled)?;
-        let used = self.state.active_in(Whose::Anyone);
-        check(!used.contains(role), Hindrance::InUse)
-    }
-
-    // The questions to an activation in a session, once its numbers are in range.
-    fn may_activate(self, role: u8, session: Session) -> Result<(), Hindrance>
-        ensures { result ≡ ok_unless (may_activate self.entry.state.now.cells role session) }
-    {
-        let Session::Open { owner, active } = session else {
-            return Err(Hindrance::NotOpen);
-        };
-        let enabled = self.state.cells.enabled;
-        check(enabled.contains(role), Hindrance::RoleDisabled)?;
-        let held = self.state.authorised(owner);
-        check(held.contains(role), Hindrance::NotAuthorised)?;
-        check(!active.contains(role), Hindrance::AlreadyActive)
-    }
-
-    // The first question that the event fails, where it fails one.
-    pub fn possible(self, event: Event) -> Result<(), Hindrance>
-        ensures { result ≡ ok_unless (hindrance self.entry.policy.now.draft.tables self.entry.state.now.cells event) }
-    {
-        let sizes = self.policy.draft.tables.sizes;
-        let state = self.state;
+        let cells = self.cells();
+        check(
+            is_in_range(self.tables().sizes, event),
+            Impossibility::OutOfRange,
+        )?;
         match event {
-            Event::Assign { user, role } => self.may_assign(user, role),
-            Event::Deassign { user, role } => self.may_deassign(user, role),
+            Event::Assign { user, role } => check(
+                !cells.authorised(user).contains(role),
+                Impossibility::AlreadyAuthorised,
+            ),
+            Event::Deassign { user, role } => {
+                check(
+                    cells.assigned(user).contains(role),
+                    Impossibility::NotAssigned,
+                )?;
+                none_of(
+                    self.lost_authority(user, role)
+                        .map(|role| Impossibility::StillActive { role }),
+                )
+            }
             Event::Enable { role } => {
-                check(role < sizes.roles, Hindrance::OutOfRange)?;
-                let enabled = state.cells.enabled;
-                check(!enabled.contains(role), Hindrance::AlreadyEnabled)
+                check(!cells.enabled.contains(role), Impossibility::AlreadyEnabled)
             }
-            Event::Disable { role } => self.may_disable(role),
-            Event::Open { session, user } => {
-                let in_range = session < sizes.sessions && user < sizes.users;
-                check(in_range, Hindrance::OutOfRange)?;
-                match state.session(session) {
-                    Session::Closed => Ok(()),
-                    Session::Open { .. } => Err(Hindrance::AlreadyOpen),
-                }
+            Event::Disable { role } => {
+                check(cells.enabled.contains(role), Impossibility::NotEnabled)?;
+                let used = self.active_in(Whose::Anyone);
+                check(!used.contains(role), Impossibility::InUse)
             }
-            Event::Close { session } => {
-                check(session < sizes.sessions, Hindrance::OutOfRange)?;
-                match state.session(session) {
-                    Session::Closed => Err(Hindrance::NotOpen),
-                    Session::Open { .. } => Ok(()),
-                }
+            Event::Open { session, .. }
+            | Event::Close { session }
+            | Event::Activate { session, .. }
+            | Event::Deactivate { session, .. } => {
+                ask_session(cells, cells.session(session), event)
             }
-            Event::Activate { session, role } => {
-                let in_range = session < sizes.sessions && role < sizes.roles;
-                check(in_range, Hindrance::OutOfRange)?;
-                self.may_activate(role, state.session(session))
+        }
+    }
+}
+
+impl GovernedState {
+    ghost use Rattle.std.specs.Prelude.{IfOk};
+    ghost use Rattle.std.specs.Result.{result_err};
+    ghost use Rattle.monitor.specs.PossibleEvents.{Asks};
+
+    /// The event asked in this state, where it is possible.
+    ///
+    /// # Errors
+    ///
+    /// The first question that the event fails.
+    pub fn ask(&self, event: Event) -> Result<PossibleEvent<'_>, Impossibility>
+        ensures impossibility { result_err result
+            ≡ impossibility (tables_of self.now) (cells_of self.now) event }
+        ensures possible { IfOk result (Asks self.now event) }
+    {
+        self.possible(event)?;
+        Ok(PossibleEvent {
+            governed: self,
+            event,
+            change: self.cells().change(event),
+        })
+    }
+}
+
+impl<'a> PossibleEvent<'a> {
+    ghost use Rattle.monitor.specs.PossibleEvents as possible;
+    ghost use Rattle.monitor.specs.Changes.{change_of, gained, lost, next};
+    ghost use Rattle.monitor.specs.Cells.{using};
+    ghost use Rattle.monitor.specs.Sessions.{active_in};
+
+    /// The tables of the policy.
+    pub fn tables(self) -> &'a Tables
+        ensures { result.now ≡ possible.tables_of self.entry }
+    {
+        self.governed.tables()
+    }
+
+    /// The cells of the state that the event is asked in.
+    pub fn cells(self) -> &'a Cells
+        ensures { result.now ≡ possible.cells_of self.entry }
+    {
+        self.governed.cells()
+    }
+
+    /// The roles that become active by the event for the owner of the session that it puts.
+    pub fn gained(self) -> RoleSet
+        ensures { result ≡ record {
+          bits = gained (possible.cells_of self.entry)
+              (change_of (possible.cells_of self.entry) self.entry.event);
+        } }
+    {
+        self.cells().gained(self.change)
+    }
+
+    /// The roles that cease to be active by the event for the owner of the session that was there.
+    pub fn lost(self) -> RoleSet
+        ensures { result ≡ record {
+          bits = lost (possible.cells_of self.entry)
+              (change_of (possible.cells_of self.entry) self.entry.event);
+        } }
+    {
+        self.cells().lost(self.change)
+    }
+
+    /// The roles active in the sessions that are meant, in the state after the event.
+    pub fn active_after(self, whose: Whose) -> RoleSet
+        ensures { result ≡ record {
+          bits = active_in whose (next (possible.tables_of self.entry)
+              (possible.cells_of self.entry) self.entry.event).sessions;
+        } }
+    {
+        match self.change {
+            Change::Seated { session, to } => {
+                active_with(self.governed.sessions(), session, to, whose)
             }
-            Event::Deactivate { session, role } => {
-                let in_range = session < sizes.sessions && role < sizes.roles;
-                check(in_range, Hindrance::OutOfRange)?;
-                may_deactivate(role, state.session(session))
+            _ => self.governed.active_in(whose),
+        }
+    }
+
+    /// How many sessions have the role active, in the state after the event.
+    pub fn using_after(self, role: u8) -> u8
+        ensures { result ≡ using (next (possible.tables_of self.entry)
+            (possible.cells_of self.entry) self.entry.event) role }
+    {
+        match self.change {
+            Change::Seated { session, to } => {
+                using_with(self.governed.sessions(), session, to, role)
             }
+            _ => self.governed.using(role),
         }
     }
 }

@@ -1,72 +1,80 @@
 // The run: event bytes in, one row out for each event.
-ghost use Rattle.std.specs.Prelude.{◌≡◌, ◌≤◌, length, Ok, Err, MatchResult};
+ghost use Rattle.std.specs.Prelude.{◌≡◌, length, Ok, Err, MatchResult};
 ghost use Rattle.records.specs.Events.{event_taken};
-ghost use Rattle.monitor.specs.declared.run.Pause.TheVariants.{NoRowLeft};
+ghost use Rattle.monitor.specs.declared.run.Stop.TheVariants.{NoRowLeft};
 ghost use Rattle.monitor.specs.OneRun.{Joins};
-ghost use Rattle.monitor.specs.Rows.{outcome, rows_after, state_run, LivesOn, Stepped};
+ghost use Rattle.monitor.specs.Governed.{tables_of, cells_of};
+ghost use Rattle.monitor.specs.Monitors.{state_of, pile_of, SamePolicy};
+ghost use Rattle.monitor.specs.Rows.{outcome, rows_after, state_run, ExtendsByBytes, FilledRow, RunBounds};
 ghost use Rattle.monitor.specs.Scripts.{end_number, script_of};
 
-use crate::decide::Monitor;
-use crate::row::Row;
-use crate::rule::Rule;
+use crate::monitors::Monitor;
+use crate::rows::Row;
+use crate::rules::Rule;
 use records::event::Event;
 use records::fault::Fault;
 use records::taking::take;
 
-// Why a run stops where no record is at fault.
-#[derive(Clone, Copy, PartialEq, Eq)]
-pub enum Pause {
+/// Why a run stops where no record is at fault.
+#[derive(Clone, Copy, Debug, PartialEq, Eq)]
+pub enum Stop {
+    /// Each byte is taken.
     NoByteLeft,
+    /// Each row is filled, and bytes are left.
     NoRowLeft,
 }
 
-// The rows that a run filled, the bytes of their events, and why it ended.
-// Kept: `rows` counts the rows that the caller lent, a fixed form of the project.
-#[derive(Clone, Copy)]
+/// What came of a run.
+#[derive(Clone, Copy, Debug, PartialEq, Eq)]
 pub struct Outcome {
+    /// How many of the lent rows are filled, one for each event.
     pub rows: usize,
+    /// How many bytes these events took.
     pub bytes: usize,
-    pub end: Result<Pause, Fault>,
+    /// Why the run ended.
+    pub end: Result<Stop, Fault>,
 }
 
 impl Outcome {
-    // The number of the end.
+    /// The number of the end: 0 where no byte is left, 10 where no row is, else that of the fault.
     pub fn number(&self) -> u8
         ensures { result ≡ end_number self.now.end }
     {
         match self.end {
-            Ok(Pause::NoByteLeft) => 0,
-            Ok(Pause::NoRowLeft) => 10,
+            Ok(Stop::NoByteLeft) => 0,
+            Ok(Stop::NoRowLeft) => 10,
             Err(fault) => fault.number(),
         }
     }
 }
 
-// Decides the event at the front and writes its row, and answers the bytes after it; `at` is its place.
-// Kept: as in decide, that policy and pile stay is a fact about two moments, which no invariant carries.
-fn step<'a, P: Rule>(
+// Decides the event at the front, writes its row and answers the bytes after it; `at` is its place.
+fn fill_row<'a, P: Rule>(
     monitor: &mut Monitor<P>,
     bytes: &'a [u8],
     at: usize,
     row: &mut Row,
 ) -> Result<&'a [u8], Fault>
-    ensures step { MatchResult result (λ tail. Stepped (P.rules monitor.old.pile) monitor.old.ledger bytes.now at tail.now row.new monitor.new.ledger.state.cells) (λ f. (event_taken bytes.now at ≡ Err f) × ((row.new ≡ row.old) × (monitor.new.ledger.state.cells ≡ monitor.old.ledger.state.cells))) }
-    ensures policy { monitor.new.ledger.policy ≡ monitor.old.ledger.policy }
-    ensures pile { monitor.new.pile ≡ monitor.old.pile }
+    ensures filled { MatchResult result
+        (λ tail. FilledRow (P.rules (pile_of monitor.old)) (state_of monitor.old) bytes.now at
+        tail.now row.new (cells_of (state_of monitor.new)))
+        (λ f. (event_taken bytes.now at ≡ Err f) × ((row.new ≡ row.old)
+        × (cells_of (state_of monitor.new) ≡ cells_of (state_of monitor.old)))) }
+    ensures same { SamePolicy monitor.old monitor.new }
 {
     let (event, tail) = take::<Event>(bytes, at)?;
     *row = Row::of(event, monitor.decide(event));
     Ok(tail)
 }
 
-// Fills a row for each event, until something ends it: the run itself, from which `run` has its laws.
-// Kept: as in decide, that policy and pile stay is a fact about two moments, which no invariant carries.
+// Fills a row for each event, until something ends it: the run, from which `run` has its laws.
 fn fill<P: Rule>(monitor: &mut Monitor<P>, bytes: &[u8], rows: &mut [Row]) -> Outcome
     ensures answer { result ≡ outcome (script_of bytes.now rows.old) }
-    ensures rows { rows.new ≡ rows_after (P.rules monitor.old.pile) monitor.old.ledger bytes.now rows.old }
-    ensures state { monitor.new.ledger.state.cells ≡ state_run (P.rules monitor.old.pile) monitor.old.ledger bytes.now rows.old }
-    ensures policy { monitor.new.ledger.policy ≡ monitor.old.ledger.policy }
-    ensures pile { monitor.new.pile ≡ monitor.old.pile }
+    ensures rows { rows.new
+        ≡ rows_after (P.rules (pile_of monitor.old)) (state_of monitor.old) bytes.now rows.old }
+    ensures state { cells_of (state_of monitor.new)
+        ≡ state_run (P.rules (pile_of monitor.old)) (state_of monitor.old) bytes.now rows.old }
+    ensures same { SamePolicy monitor.old monitor.new }
 {
     let mut rest = bytes;
     for (filled, row) in rows.iter_mut().enumerate() {
@@ -75,10 +83,10 @@ fn fill<P: Rule>(monitor: &mut Monitor<P>, bytes: &[u8], rows: &mut [Row]) -> Ou
             return Outcome {
                 rows: filled,
                 bytes: taken,
-                end: Ok(Pause::NoByteLeft),
+                end: Ok(Stop::NoByteLeft),
             };
         }
-        match step(monitor, rest, taken, row) {
+        match fill_row(monitor, rest, taken, row) {
             Ok(tail) => rest = tail,
             Err(fault) => {
                 return Outcome {
@@ -93,25 +101,29 @@ fn fill<P: Rule>(monitor: &mut Monitor<P>, bytes: &[u8], rows: &mut [Row]) -> Ou
         rows: rows.len(),
         bytes: bytes.len() - rest.len(),
         end: Ok(if rest.is_empty() {
-            Pause::NoByteLeft
+            Stop::NoByteLeft
         } else {
-            Pause::NoRowLeft
+            Stop::NoRowLeft
         }),
     }
 }
 
-// Decides each event of the bytes and writes its row, while there are rows. It ends when no byte is left, when no row is left, or
-// at the first record that is no event or is cut, asked in this order; later rows stay as they were.
-// Kept: as in decide, that policy and pile stay is a fact about two moments, which no invariant carries.
+/// Decides each event of the bytes and writes its row, while there are rows. It ends when no byte
+/// is left, when no row is left, or at the first record that is no event or is cut, asked in this
+/// order; later rows stay as they were. The place of a fault counts from 0 at the first byte.
 pub fn run<P: Rule>(monitor: &mut Monitor<P>, bytes: &[u8], rows: &mut [Row]) -> Outcome
     ensures answer { result ≡ outcome (script_of bytes.now rows.old) }
-    ensures rows { rows.new ≡ rows_after (P.rules monitor.old.pile) monitor.old.ledger bytes.now rows.old }
-    ensures state { monitor.new.ledger.state.cells ≡ state_run (P.rules monitor.old.pile) monitor.old.ledger bytes.now rows.old }
-    ensures policy { monitor.new.ledger.policy ≡ monitor.old.ledger.policy }
-    ensures pile { monitor.new.pile ≡ monitor.old.pile }
-    ensures law { LivesOn (P.rules monitor.old.pile) monitor.old.ledger bytes.now rows.old monitor.new.ledger.state.cells }
-    ensures within { (result.rows ≤ length rows.old) × ((result.rows ≤ result.bytes) × (result.bytes ≤ length bytes.now)) }
-    ensures joins { result.end ≡ Ok NoRowLeft → Joins (P.rules monitor.old.pile) monitor.old.ledger.policy.draft.tables monitor.old.ledger.state.cells bytes.now (length rows.old) }
+    ensures rows { rows.new
+        ≡ rows_after (P.rules (pile_of monitor.old)) (state_of monitor.old) bytes.now rows.old }
+    ensures state { cells_of (state_of monitor.new)
+        ≡ state_run (P.rules (pile_of monitor.old)) (state_of monitor.old) bytes.now rows.old }
+    ensures same { SamePolicy monitor.old monitor.new }
+    ensures law { ExtendsByBytes (P.rules (pile_of monitor.old)) (state_of monitor.old) bytes.now
+        rows.old (cells_of (state_of monitor.new)) }
+    ensures within { RunBounds rows.old bytes.now result }
+    ensures joins { result.end ≡ Ok NoRowLeft
+        → Joins (P.rules (pile_of monitor.old)) (tables_of (state_of monitor.old))
+        (cells_of (state_of monitor.old)) bytes.now (length rows.old) }
 {
     fill(monitor, bytes, rows)
 }

@@ -6,8 +6,8 @@ use Rattle.sets.specs.Aliases.{RoleSet}
 use Rattle.policy.specs.declared.tables.Tables.{Tables}
 use Rattle.policy.specs.Entries.{no_roles}
 use Rattle.policy.specs.Updates.{only}
-use Rattle.monitor.specs.declared.cells.Cells.{Cells}
-use Rattle.monitor.specs.declared.cells.Session.TheVariants.{Closed, Open}
+use Rattle.monitor.specs.declared.states.Cells.{Cells}
+use Rattle.monitor.specs.declared.sessions.Session.TheVariants.{Closed, Open}
 use Rattle.monitor.specs.Meaning.{Meaning, Ruling, ruling}
 use Rattle.monitor.specs.Possible.{Possible}
 use Rattle.own.specs.Once.{once_per_user}
@@ -23,7 +23,8 @@ both_roles = record { bits = 3 }
 abbrev pub role_1 : RoleSet
 role_1 = record { bits = 2 }
 
--- both roles are enabled and assigned to user 0, who has two sessions open, and role 1 active in the first
+-- both roles are enabled and assigned to user 0, who has two sessions open and role 1 active in the
+-- first
 abbrev pub busy : Cells
 busy = record {
   assigned = both_roles ∷ replicate 63 no_roles;

@@ -1,4 +1,4 @@
 pub mod Once
 pub mod Lenient
 pub mod Cases
-pub mod Keeps
+pub mod OnceLaws

@@ -6,3 +6,6 @@ pub mod piles;
 #[cfg(test)]
 mod tests;
 pub mod worked;
+
+pub use once::OncePerUser;
+pub use worked::worked_case;

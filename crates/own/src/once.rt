@@ -2,14 +2,13 @@
 ghost use Rattle.std.specs.Prelude.{◌≡◌, true};
 ghost use Rattle.own.specs.Once.{once_per_user, admitted};
 ghost use Rattle.std.proofs.Common.{arith, subst};
-ghost use Rattle.own.specs.Keeps.{blank_once, next_once};
+ghost use Rattle.own.specs.OnceLaws.{blank_once, next_once};
 
-use monitor::asked::Asked;
-use monitor::cells::{Session, Whose};
-use monitor::own::{Objection, OwnRule};
+use monitor::{Change, Objection, OwnRule, PossibleEvent, Whose};
 use policy::asking::check;
-use records::event::Event;
 
+/// The rule that a user never has the role active in two sessions at once. It names the number 100
+/// and the user.
 #[derive(Clone, Copy, Default)]
 pub struct OncePerUser {
     pub role: u8,
@@ -21,28 +20,32 @@ impl OwnRule for OncePerUser {
     ghost lawful = { λ x.
         record {
           fresh = λ t law. blank_once x.role;
-          keeps = λ t c e law fits can once admits. next_once x.role c once t e (λ s r is. subst (λ v. admitted x.role c v ≡ true) is admits);
+          keeps = λ t c e law fits can once admits.
+              next_once t law.formed c fits x.role e can once
+              (λ s y is. subst (λ d. admitted x.role c d ≡ true) is admits);
           named = λ t c e. (omega arith, omega arith);
         } };
 
     ghost confined = { λ x t c e. (omega arith, omega arith) };
 
-    fn object(&self, asked: Asked) -> Result<(), Objection> {
-        let Event::Activate { session, role } = asked.event else {
-            return Ok(());
-        };
-        // a possible activation is of an open session
-        let Session::Open { owner, .. } = asked.state.session(session) else {
-            return Ok(());
-        };
-        let used = asked.state.active_in(Whose::User { user: owner });
-        let twice = role == self.role && used.contains(role);
-        check(
-            !twice,
-            Objection {
-                number: 100,
-                subject: owner,
-            },
-        )
+    fn object(&self, possible: PossibleEvent) -> Result<(), Objection> {
+        match possible.change {
+            Change::Seated { to, .. } => {
+                let owner = to.owner();
+                let twice = possible.gained().contains(self.role)
+                    && possible
+                        .governed
+                        .active_in(Whose::User { user: owner })
+                        .contains(self.role);
+                check(
+                    !twice,
+                    Objection {
+                        number: 100,
+                        subject: owner,
+                    },
+                )
+            }
+            _ => Ok(()),
+        }
     }
 }

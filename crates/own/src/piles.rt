@@ -1,21 +1,24 @@
-// Piles of the rule, by one pile above another: no place in them is past 255, however high they are.
+// Piles of the rule, one pile above another, for a look at their places.
 use crate::once::OncePerUser;
-use monitor::own::Own;
-use monitor::pair::Pair;
+use monitor::{Own, Pair};
 
-// A pile above itself, and four of it.
+/// A pile above itself.
 pub type Twofold<P> = Pair<P, P>;
 
+/// A pile four times, one above another.
 pub type Fourfold<P> = Twofold<Twofold<P>>;
 
-// Piles of so many of the rule. A higher one has a struct of its own among its parts, since a type may name only so many others.
-// Kept: one name for each height, since no type is computed from a number.
+// No type is computed from a number, so each height has a name. A pile of more than 32 needs a
+// struct of its own among its parts, since a type may name only so many others.
+
+/// The rule alone.
 pub type One = Own<OncePerUser>;
 
+/// Two rules.
 pub type Two = Twofold<One>;
 
+/// Four rules.
 pub type Four = Fourfold<One>;
 
+/// Sixteen rules.
 pub type Sixteen = Fourfold<Four>;
-
-pub type SixtyFour = Fourfold<Sixteen>;

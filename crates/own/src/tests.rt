@@ -1,13 +1,10 @@
-// How many places there are in piles of 1, 2, 64, 128 and 256 rules.
+// How many places there are in piles of 1, 2, 16, 64, 128 and 256 rules.
 ghost use Rattle.std.specs.Prelude.{replicate};
 ghost use Rattle.own.specs.Lenient.{lenient};
 ghost use Rattle.std.proofs.Common.{rules};
 
-use crate::piles::{Fourfold, One, SixtyFour, Two, Twofold};
-use monitor::answer::Reason;
-use monitor::asked::Asked;
-use monitor::own::{Objection, Own, OwnRule};
-use monitor::rule::Rule;
+use crate::piles::{Fourfold, One, Sixteen, Two, Twofold};
+use monitor::{Objection, Own, OwnRule, PossibleEvent, Reason, Rule};
 use std::process::Abort;
 
 // A rule that admits every event, and holds nothing.
@@ -21,7 +18,7 @@ impl OwnRule for Lenient {
 
     ghost confined = { Prim.search rules };
 
-    fn object(&self, asked: Asked) -> Result<(), Objection> {
+    fn object(&self, possible: PossibleEvent) -> Result<(), Objection> {
         Ok(())
     }
 }
@@ -39,8 +36,8 @@ impl Rule for SixteenLenient {
 
     ghost lawful = { Prim.search rules };
 
-    fn consult(&self, asked: Asked) -> Result<(), Reason> {
-        self.pile.consult(asked)
+    fn consult(&self, possible: PossibleEvent) -> Result<(), Reason> {
+        self.pile.consult(possible)
     }
 
     fn places(&self) -> u8 {
@@ -49,23 +46,28 @@ impl Rule for SixteenLenient {
 }
 
 // The pile has so many places.
-fn counts<P: Default + Rule + Drop>(rt: &impl Abort, places: u8) {
+fn has_places<P: Default + Rule + Drop>(rt: &impl Abort, places: u8) {
     assert_eq!(rt; P::default().places(), places);
 }
 
 #[test]
-fn places_up_to_64(rt: HostRuntime) {
-    counts::<One>(&rt, 1);
-    counts::<Two>(&rt, 2);
-    counts::<SixtyFour>(&rt, 64);
+fn places_up_to_16(rt: HostRuntime) {
+    has_places::<One>(&rt, 1);
+    has_places::<Two>(&rt, 2);
+    has_places::<Sixteen>(&rt, 16);
+}
+
+#[test]
+fn places_of_64(rt: HostRuntime) {
+    has_places::<Fourfold<SixteenLenient>>(&rt, 64);
 }
 
 #[test]
 fn places_of_128(rt: HostRuntime) {
-    counts::<Fourfold<Twofold<SixteenLenient>>>(&rt, 128);
+    has_places::<Fourfold<Twofold<SixteenLenient>>>(&rt, 128);
 }
 
 #[test]
 fn places_of_256(rt: HostRuntime) {
-    counts::<Fourfold<Fourfold<SixteenLenient>>>(&rt, 255);
+    has_places::<Fourfold<Fourfold<SixteenLenient>>>(&rt, 255);
 }

@@ -4,7 +4,7 @@ ghost use Rattle.own.specs.Cases.{Worked};
 
 use crate::once::OncePerUser;
 
-// The rule for role 1, with what the written rules say of it.
+/// The rule for role 1, with what the definitions say of it in one small state.
 pub fn worked_case() -> OncePerUser
     ensures value { result ≡ record { role = 1 } }
     ensures law { Worked }

@@ -4,13 +4,13 @@ use Rattle.sets.specs.First.{first_of}
 use Rattle.sets.specs.Sets.{has, union, with_member}
 use Rattle.policy.specs.Questions.{Passes, Vetted}
 use Rattle.policy.specs.Search.{verdict}
-use Rattle.policy.specs.Seniority.{gathered, closed_below}
+use Rattle.policy.specs.Seniority.{rows_union, closed_below}
 use Rattle.policy.specs.Updates.{only, bare}
-use Rattle.policy.proofs.Keeping.{bare_well_formed}
-use Rattle.policy.proofs.Verdicts.{verdict_right}
+use Rattle.policy.specs.WellFormedLaws.{bare_well_formed}
+use Rattle.policy.specs.VerdictLaws.{verdict_right}
 
 bare-verdict : verdict bare ≡ Ok tt
-unfolding only first_of has union with_member gathered closed_below
+unfolding only first_of has union with_member rows_union closed_below
 bare-verdict = refl
 
 pub bare-passes : Passes bare

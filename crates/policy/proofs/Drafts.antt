@@ -7,13 +7,14 @@ use Rattle.policy.specs.Questions.{Passes, Vetted}
 use Rattle.policy.specs.Search.{verdict}
 use Rattle.policy.specs.Verdicts.{Verdict}
 use Rattle.policy.specs.WellFormed.{WellFormed}
-use Rattle.policy.proofs.Verdicts.{verdict_right}
+use Rattle.policy.specs.ApprovedLaws.{draft_well_formed}
+use Rattle.policy.specs.VerdictLaws.{verdict_right}
 
 pub well_formed : (d : Draft) → WellFormed d.tables
-well_formed d = d.formed
+well_formed d = draft_well_formed d
 
 pub vetted : (d : Draft) (v : Verdict) → v ≡ verdict d.tables → Vetted d.tables v
-vetted d v e = subst (Vetted d.tables) (sym e) (verdict_right d.tables (well_formed d))
+vetted d v e = subst (Vetted d.tables) (sym e) (verdict_right d.tables (draft_well_formed d))
 
 -- so a draft that is passed fails no question
 pub passes : (d : Draft) (v : Verdict) → v ≡ verdict d.tables → is_ok v ≡ true → Passes d.tables

@@ -7,7 +7,7 @@ use Rattle.std.specs.Iterator.Runs.{Run, SomeRun, AllItemsGive, IsFirstToGive}
 use Rattle.std.specs.Option.{option_map, IfSome, IsSomeAnd, MatchOption}
 use denote.Param.Members.{Mut}
 use Rattle.sets.specs.First.{first_of}
-use Rattle.sets.proofs.First.{none_all, found_at}
+use Rattle.sets.specs.FirstLaws.{none_all, found_at}
 
 read_back : (o : Option ℕ) (m : ℕ) → option_map (λ y. y) o ≡ Some m → o ≡ Some m
 read_back None m e = e

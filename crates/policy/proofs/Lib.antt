@@ -1,10 +1,3 @@
 pub mod Bare
-pub mod Closing
 pub mod Drafts
 pub mod Finding
-pub mod Keeping
-pub mod Loops
-pub mod Members
-pub mod Turns
-pub mod Verdicts
-pub mod Policies

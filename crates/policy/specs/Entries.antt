@@ -3,7 +3,7 @@
 --   inherits     the first role inherits the second directly
 --   ssd_pair     two roles are in static conflict;  dsd_pair: in dynamic conflict
 --   users_pair   two users conflict for a role
-use Rattle.std.specs.Prelude.{ℕ, Bool, List, [], get_or, slice_index_or}
+use Rattle.std.specs.Prelude.{ℕ, Bool, List, [], slice_index_or}
 use Rattle.sets.specs.Aliases.{RoleSet, UserSet}
 use Rattle.sets.specs.Sets.{has}
 use Rattle.policy.specs.declared.tables.Tables.{Tables}
@@ -15,10 +15,10 @@ abbrev pub no_users : UserSet
 no_users = record { bits = 0 }
 
 abbrev pub holds : List RoleSet → ℕ → ℕ → Bool
-holds rows i r = has (get_or rows i no_roles).bits r
+holds rows i r = has (slice_index_or rows i no_roles).bits r
 
 abbrev pub holds_user : List (List UserSet) → ℕ → ℕ → ℕ → Bool
-holds_user rows r u v = has (get_or (slice_index_or rows r []) u no_users).bits v
+holds_user rows r u v = has (slice_index_or (slice_index_or rows r []) u no_users).bits v
 
 abbrev pub inherits : Tables → ℕ → ℕ → Bool
 inherits t a b = holds t.hierarchy.juniors a b
@@ -30,4 +30,4 @@ abbrev pub dsd_pair : Tables → ℕ → ℕ → Bool
 dsd_pair t a b = holds t.dsd.partners a b
 
 abbrev pub users_pair : Tables → ℕ → ℕ → ℕ → Bool
-users_pair t r u v = holds_user t.conflicting.partners r u v
+users_pair t r u v = holds_user t.activation_conflicts.partners r u v

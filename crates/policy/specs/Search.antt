@@ -1,70 +1,119 @@
--- The verdict as it is searched for, by the table of seniority. Assumes nothing.
--- That it is the right verdict is said by `Vetted`.
-use Rattle.std.specs.Prelude.{ℕ, Bool, cond, not, ◌&&◌, ◌||◌, List, Some, None, Option, Ok, Err, nat_lt}
+-- The verdict as it is searched for: a list of questions, asked in their order. Assumes nothing.
+--   Question     the number of the failures that a question looks for, and what it finds
+--   questions    all of them in their order, by the table of seniority
+--   IsAnswered   what a question finds is right; each has a file of laws that says so
+--   verdict      the verdict on a policy; that it is the right one is said by `Vetted`
+use Rattle.std.specs.Prelude.{◌≡◌, ℕ, Bool, not, ◌&&◌, ◌||◌, List, [], ◌∷◌, Some, None, Option, Ok, Err, if◌then◌else◌, nat_lt}
 use Rattle.sets.specs.Aliases.{RoleSet}
 use Rattle.sets.specs.First.{first_of}
 use Rattle.policy.specs.declared.tables.Tables.{Tables}
 use Rattle.policy.specs.declared.verdict.Failure.{Failure}
-use Rattle.policy.specs.declared.verdict.Failure.TheVariants.{Cycle, SelfConflict, LostConflict, BothConflicts, LostUsers}
+use Rattle.policy.specs.declared.verdict.Failure.TheVariants.{Cycle, SelfConflict, UninheritedConflict, BothConflicts, UninheritedUserConflict}
 use Rattle.policy.specs.Entries.{holds, ssd_pair, dsd_pair, users_pair}
+use Rattle.policy.specs.Questions.{Witness, IsLowest}
 use Rattle.policy.specs.Seniority.{closure}
-use Rattle.policy.specs.Verdicts.{Verdict}
+use Rattle.policy.specs.Verdicts.{Verdict, failure_number}
 
--- 11: the two roles, lower first
+pub record Question : Type 0 where
+  pub number : ℕ
+  pub finding : Option Failure
+
+-- none is found where no failure of the number has a witness, and else the lowest that has one
+pub record IsAnswered (t : Tables) (q : Question) : Type 0 where
+  pub none : q.finding ≡ None → (f : Failure) → failure_number f ≡ q.number → Witness t f → ⊥
+  pub lowest : (f : Failure) → q.finding ≡ Some f → IsLowest t q.number f
+
+-- two roles that are each senior to the other, the lower first
 abbrev pub cycle_at : List RoleSet → ℕ → ℕ → Option Failure
-cycle_at rows a b = cond (nat_lt a b && (holds rows a b && holds rows b a)) (Some (Cycle a b)) None
+cycle_at rows a b =
+    if nat_lt a b && (holds rows a b && holds rows b a) then Some (Cycle a b) else None
 
-abbrev pub cycle_found : List RoleSet → Tables → Option Failure
-cycle_found rows t = first_of t.sizes.roles (λ a. first_of t.sizes.roles (cycle_at rows a))
+abbrev pub lowest_cycle : List RoleSet → Tables → Option Failure
+lowest_cycle rows t =
+    first_of t.sizes.roles (λ a. first_of t.sizes.roles (cycle_at rows a))
 
--- 12
+abbrev pub cycle_question : List RoleSet → Tables → Question
+cycle_question rows t = record { number = 11; finding = lowest_cycle rows t }
+
+-- a role in conflict with itself
 abbrev pub self_conflict_at : Tables → ℕ → Option Failure
-self_conflict_at t a = cond (ssd_pair t a a || dsd_pair t a a) (Some (SelfConflict a)) None
+self_conflict_at t a =
+    if ssd_pair t a a || dsd_pair t a a then Some (SelfConflict a) else None
 
-abbrev pub self_conflict_found : Tables → Option Failure
-self_conflict_found t = first_of t.sizes.roles (self_conflict_at t)
+abbrev pub lowest_self_conflict : Tables → Option Failure
+lowest_self_conflict t = first_of t.sizes.roles (self_conflict_at t)
 
--- 13
-abbrev pub lost_conflict : List RoleSet → Tables → ℕ → ℕ → ℕ → Bool
-lost_conflict rows t a b c = holds rows a b && (ssd_pair t b c && not (ssd_pair t a c))
+abbrev pub self_conflict_question : Tables → Question
+self_conflict_question t = record { number = 12; finding = lowest_self_conflict t }
 
-abbrev pub lost_conflict_at : List RoleSet → Tables → ℕ → ℕ → ℕ → Option Failure
-lost_conflict_at rows t a b c = cond (lost_conflict rows t a b c) (Some (LostConflict a b c)) None
+-- a senior role without the static conflict of its junior
+abbrev pub is_uninherited_conflict : List RoleSet → Tables → ℕ → ℕ → ℕ → Bool
+is_uninherited_conflict rows t a b c = holds rows a b && (ssd_pair t b c && not (ssd_pair t a c))
 
-abbrev pub lost_conflict_found : List RoleSet → Tables → Option Failure
-lost_conflict_found rows t =
-    let n : ℕ = t.sizes.roles in first_of n (λ a. first_of n (λ b. first_of n (λ c. lost_conflict_at rows t a b c)))
+abbrev pub uninherited_conflict_at : List RoleSet → Tables → ℕ → ℕ → ℕ → Option Failure
+uninherited_conflict_at rows t a b c =
+    if is_uninherited_conflict rows t a b c then Some (UninheritedConflict a b c) else None
 
--- 14
+abbrev pub lowest_uninherited_conflict : List RoleSet → Tables → Option Failure
+lowest_uninherited_conflict rows t =
+    let n : ℕ = t.sizes.roles in
+    first_of n (λ a. first_of n (λ b. first_of n (λ c. uninherited_conflict_at rows t a b c)))
+
+abbrev pub uninherited_conflict_question : List RoleSet → Tables → Question
+uninherited_conflict_question rows t =
+    record { number = 13; finding = lowest_uninherited_conflict rows t }
+
+-- a pair in both kinds of conflict
 abbrev pub both_conflicts_at : Tables → ℕ → ℕ → Option Failure
-both_conflicts_at t a b = cond (ssd_pair t a b && dsd_pair t a b) (Some (BothConflicts a b)) None
+both_conflicts_at t a b =
+    if ssd_pair t a b && dsd_pair t a b then Some (BothConflicts a b) else None
 
-abbrev pub both_conflicts_found : Tables → Option Failure
-both_conflicts_found t = first_of t.sizes.roles (λ a. first_of 32 (both_conflicts_at t a))
+abbrev pub lowest_both_conflicts : Tables → Option Failure
+lowest_both_conflicts t = first_of t.sizes.roles (λ a. first_of 32 (both_conflicts_at t a))
 
--- 15
-abbrev pub lost_user_at : Tables → ℕ → ℕ → ℕ → ℕ → Option Failure
-lost_user_at t a b u v = cond (users_pair t b u v && not (users_pair t a u v)) (Some (LostUsers a b u v)) None
+abbrev pub both_conflicts_question : Tables → Question
+both_conflicts_question t = record { number = 14; finding = lowest_both_conflicts t }
 
-abbrev pub lost_users_at : List RoleSet → Tables → ℕ → ℕ → Option Failure
-lost_users_at rows t a b = cond (holds rows a b) (first_of t.sizes.users (λ u. first_of 64 (lost_user_at t a b u))) None
+-- two users in conflict for a junior role and not for its senior
+abbrev pub uninherited_user_conflict_at : Tables → ℕ → ℕ → ℕ → ℕ → Option Failure
+uninherited_user_conflict_at t a b u v =
+    if users_pair t b u v && not (users_pair t a u v)
+    then Some (UninheritedUserConflict a b u v)
+    else None
 
-abbrev pub lost_users_found : List RoleSet → Tables → Option Failure
-lost_users_found rows t = first_of t.sizes.roles (λ a. first_of t.sizes.roles (lost_users_at rows t a))
+abbrev pub uninherited_users_at : List RoleSet → Tables → ℕ → ℕ → Option Failure
+uninherited_users_at rows t a b =
+    if holds rows a b
+    then first_of t.sizes.users (λ u. first_of 64 (uninherited_user_conflict_at t a b u))
+    else None
 
--- the first that is found, in the order of the questions
-abbrev pub settled : Option Failure → Verdict → Verdict
-settled (Some f) v = Err f
-settled None v = v
+abbrev pub lowest_uninherited_users : List RoleSet → Tables → Option Failure
+lowest_uninherited_users rows t =
+    first_of t.sizes.roles (λ a. first_of t.sizes.roles (uninherited_users_at rows t a))
 
-abbrev pub searched : List RoleSet → Tables → Verdict
-searched rows t =
-    settled (cycle_found rows t)
-    (settled (self_conflict_found t)
-    (settled (lost_conflict_found rows t)
-    (settled (both_conflicts_found t)
-    (settled (lost_users_found rows t) (Ok tt)))))
+abbrev pub uninherited_users_question : List RoleSet → Tables → Question
+uninherited_users_question rows t =
+    record { number = 15; finding = lowest_uninherited_users rows t }
+
+-- all questions, in the order of their numbers
+abbrev pub questions : List RoleSet → Tables → List Question
+questions rows t =
+    cycle_question rows t
+    ∷ self_conflict_question t
+    ∷ uninherited_conflict_question rows t
+    ∷ both_conflicts_question t
+    ∷ uninherited_users_question rows t
+    ∷ []
+
+-- the first failure that is found, or the verdict on what comes after
+abbrev pub failure_or : Option Failure → Verdict → Verdict
+failure_or (Some f) rest = Err f
+failure_or None rest = rest
+
+abbrev pub first_failure : List Question → Verdict
+first_failure [] = Ok tt
+first_failure (q ∷ qs) = failure_or q.finding (first_failure qs)
 
 -- the verdict on a policy
 abbrev pub verdict : Tables → Verdict
-verdict t = searched (closure t.hierarchy.juniors) t
+verdict t = first_failure (questions (closure t.hierarchy.juniors) t)

@@ -1,5 +1,5 @@
 -- The tables with nothing in them, and with one entry more. Assumes nothing.
-use Rattle.std.specs.Prelude.{ℕ, List, [], get_or, replicate, None, slice_index_or, slice_set}
+use Rattle.std.specs.Prelude.{ℕ, List, [], replicate, None, slice_index_or, slice_set}
 use Rattle.sets.specs.declared.bit_set.BitSet.{BitSet}
 use Rattle.sets.specs.Aliases.{RoleSet, UserSet}
 use Rattle.sets.specs.Sets.{with_member}
@@ -15,8 +15,13 @@ only sizes = record {
   hierarchy = record { juniors = replicate 32 no_roles };
   ssd = record { partners = replicate 32 no_roles };
   dsd = record { partners = replicate 32 no_roles };
-  conflicting = record { partners = replicate 32 (replicate 64 no_users) };
-  limits = record { users = replicate 32 None; roles = replicate 64 None; active = replicate 64 None; sessions = replicate 32 None };
+  activation_conflicts = record { partners = replicate 32 (replicate 64 no_users) };
+  limits = record {
+    users = replicate 32 None;
+    roles = replicate 64 None;
+    active = replicate 64 None;
+    sessions = replicate 32 None;
+  };
   requirements = record { sets = replicate 6 (replicate 32 no_roles) };
   dependencies = record { needs = replicate 32 no_roles };
 }
@@ -25,13 +30,17 @@ only sizes = record {
 abbrev pub bare : Tables
 bare = only (record { users = 1; roles = 1; sessions = 1 })
 
--- a row with one more member, of sets over the words of a width; and a pair, which is stored both ways
-abbrev pub with_one : {W : Type 0} → (W → ℕ) → (ℕ → W) → ℕ → List (BitSet W) → ℕ → ℕ → List (BitSet W)
-with_one value word width rows a b =
-    slice_set rows a (record { bits = word (with_member width (value (get_or rows a (record { bits = word 0 })).bits) b) })
+-- a row with one more member, and a pair, which is stored both ways: of sets over words of a width
+abbrev pub with_one : {W : Type 0} → (W → ℕ) → (ℕ → W) → ℕ → List (BitSet W) → ℕ → ℕ
+    → List (BitSet W)
+with_one {W = W} value word width rows a b =
+    let row : BitSet W = slice_index_or rows a (record { bits = word 0 }) in
+    slice_set rows a (record { bits = word (with_member width (value row.bits) b) })
 
-abbrev pub with_both : {W : Type 0} → (W → ℕ) → (ℕ → W) → ℕ → List (BitSet W) → ℕ → ℕ → List (BitSet W)
-with_both value word width rows a b = with_one value word width (with_one value word width rows a b) b a
+abbrev pub with_both : {W : Type 0} → (W → ℕ) → (ℕ → W) → ℕ → List (BitSet W) → ℕ → ℕ
+    → List (BitSet W)
+with_both value word width rows a b =
+    with_one value word width (with_one value word width rows a b) b a
 
 -- the same of roles, and of the users in the row of a role
 abbrev pub with_role : List RoleSet → ℕ → ℕ → List RoleSet
@@ -41,26 +50,27 @@ abbrev pub with_pair : List RoleSet → ℕ → ℕ → List RoleSet
 with_pair = with_both (λ n. n) (λ n. n) 32
 
 abbrev pub with_users : List (List UserSet) → ℕ → ℕ → ℕ → List (List UserSet)
-with_users rows r u v = slice_set rows r (with_both (λ n. n) (λ n. n) 64 (slice_index_or rows r []) u v)
+with_users rows r u v =
+    slice_set rows r (with_both (λ n. n) (λ n. n) 64 (slice_index_or rows r []) u v)
 
--- the tables with one of them replaced
-abbrev pub put_hierarchy : Tables → List RoleSet → Tables
-put_hierarchy t x = record { sizes = t.sizes; hierarchy = record { juniors = x }; ssd = t.ssd; dsd = t.dsd; conflicting = t.conflicting; limits = t.limits; requirements = t.requirements; dependencies = t.dependencies }
+-- the tables with another in the place of one
+abbrev pub with_hierarchy : Tables → List RoleSet → Tables
+with_hierarchy t x = record t { hierarchy = record { juniors = x } }
 
-abbrev pub put_ssd : Tables → List RoleSet → Tables
-put_ssd t x = record { sizes = t.sizes; hierarchy = t.hierarchy; ssd = record { partners = x }; dsd = t.dsd; conflicting = t.conflicting; limits = t.limits; requirements = t.requirements; dependencies = t.dependencies }
+abbrev pub with_ssd : Tables → List RoleSet → Tables
+with_ssd t x = record t { ssd = record { partners = x } }
 
-abbrev pub put_dsd : Tables → List RoleSet → Tables
-put_dsd t x = record { sizes = t.sizes; hierarchy = t.hierarchy; ssd = t.ssd; dsd = record { partners = x }; conflicting = t.conflicting; limits = t.limits; requirements = t.requirements; dependencies = t.dependencies }
+abbrev pub with_dsd : Tables → List RoleSet → Tables
+with_dsd t x = record t { dsd = record { partners = x } }
 
-abbrev pub put_conflicting : Tables → List (List UserSet) → Tables
-put_conflicting t x = record { sizes = t.sizes; hierarchy = t.hierarchy; ssd = t.ssd; dsd = t.dsd; conflicting = record { partners = x }; limits = t.limits; requirements = t.requirements; dependencies = t.dependencies }
+abbrev pub with_activation_conflicts : Tables → List (List UserSet) → Tables
+with_activation_conflicts t x = record t { activation_conflicts = record { partners = x } }
 
-abbrev pub put_limits : Tables → Limits → Tables
-put_limits t x = record { sizes = t.sizes; hierarchy = t.hierarchy; ssd = t.ssd; dsd = t.dsd; conflicting = t.conflicting; limits = x; requirements = t.requirements; dependencies = t.dependencies }
+abbrev pub with_limits : Tables → Limits → Tables
+with_limits t x = record t { limits = x }
 
-abbrev pub put_requirements : Tables → List (List RoleSet) → Tables
-put_requirements t x = record { sizes = t.sizes; hierarchy = t.hierarchy; ssd = t.ssd; dsd = t.dsd; conflicting = t.conflicting; limits = t.limits; requirements = record { sets = x }; dependencies = t.dependencies }
+abbrev pub with_requirements : Tables → List (List RoleSet) → Tables
+with_requirements t x = record t { requirements = record { sets = x } }
 
-abbrev pub put_dependencies : Tables → List RoleSet → Tables
-put_dependencies t x = record { sizes = t.sizes; hierarchy = t.hierarchy; ssd = t.ssd; dsd = t.dsd; conflicting = t.conflicting; limits = t.limits; requirements = t.requirements; dependencies = record { needs = x } }
+abbrev pub with_dependencies : Tables → List RoleSet → Tables
+with_dependencies t x = record t { dependencies = record { needs = x } }

@@ -1,7 +1,7 @@
--- The number and the names of each verdict, and when one failure comes before another. Assumes nothing.
+-- The number and the names of each verdict, and which failure comes sooner. Assumes nothing.
 use Rattle.std.specs.Prelude.{◌≡◌, ℕ, ◌<◌, ◌⊎◌, List, [], ◌∷◌, Ok, Err, Result}
 use Rattle.policy.specs.declared.verdict.Failure.{Failure}
-use Rattle.policy.specs.declared.verdict.Failure.TheVariants.{Cycle, SelfConflict, LostConflict, BothConflicts, LostUsers}
+use Rattle.policy.specs.declared.verdict.Failure.TheVariants.{Cycle, SelfConflict, UninheritedConflict, BothConflicts, UninheritedUserConflict}
 
 -- a policy passes, or fails a question
 abbrev pub Verdict : Type 0
@@ -10,17 +10,17 @@ Verdict = Result (Unit {0}) Failure
 abbrev pub failure_number : Failure → ℕ
 failure_number (Cycle a b) = 11
 failure_number (SelfConflict a) = 12
-failure_number (LostConflict a b c) = 13
+failure_number (UninheritedConflict a b c) = 13
 failure_number (BothConflicts a b) = 14
-failure_number (LostUsers a b u v) = 15
+failure_number (UninheritedUserConflict a b u v) = 15
 
 -- four names; unused ones are 0
 abbrev pub failure_names : Failure → List ℕ
 failure_names (Cycle a b) = a ∷ b ∷ 0 ∷ 0 ∷ []
 failure_names (SelfConflict a) = a ∷ 0 ∷ 0 ∷ 0 ∷ []
-failure_names (LostConflict a b c) = a ∷ b ∷ c ∷ 0 ∷ []
+failure_names (UninheritedConflict a b c) = a ∷ b ∷ c ∷ 0 ∷ []
 failure_names (BothConflicts a b) = a ∷ b ∷ 0 ∷ 0 ∷ []
-failure_names (LostUsers a b u v) = a ∷ b ∷ u ∷ v ∷ []
+failure_names (UninheritedUserConflict a b u v) = a ∷ b ∷ u ∷ v ∷ []
 
 abbrev pub number_of : Verdict → ℕ
 number_of (Ok _) = 0
@@ -38,4 +38,6 @@ Lower (x ∷ xs) (y ∷ ys) = (x < y) ⊎ ((x ≡ y) × Lower xs ys)
 
 -- an earlier question comes first; of one question, the lower names
 abbrev pub Sooner : Failure → Failure → Type 0
-Sooner f g = (failure_number f < failure_number g) ⊎ ((failure_number f ≡ failure_number g) × Lower (failure_names f) (failure_names g))
+Sooner f g =
+    (failure_number f < failure_number g)
+    ⊎ ((failure_number f ≡ failure_number g) × Lower (failure_names f) (failure_names g))

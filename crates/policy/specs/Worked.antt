@@ -1,13 +1,13 @@
 -- What the written rules say of four small policies, as bytes. Assumes nothing.
 use Rattle.std.specs.Prelude.{◌≡◌, ℕ, List, [], ◌∷◌, Ok, Err}
-use Rattle.policy.specs.declared.verdict.Failure.TheVariants.{Cycle, SelfConflict, LostConflict}
+use Rattle.policy.specs.declared.verdict.Failure.TheVariants.{Cycle, SelfConflict, UninheritedConflict}
 use Rattle.policy.specs.Questions.{Vetted}
-use Rattle.policy.specs.Reading.{reading, answered, drafted}
+use Rattle.policy.specs.Reading.{reading, answer_of, draft_of}
 use Rattle.policy.specs.Verdicts.{Verdict}
 
 -- the bytes are read whole, and the verdict on them is the right one
 abbrev pub Judged : List ℕ → ℕ → Verdict → Type 0
-Judged bytes count v = (answered (reading bytes) ≡ Ok count) × Vetted (drafted (reading bytes)) v
+Judged bytes count v = (answer_of (reading bytes) ≡ Ok count) × Vetted (draft_of (reading bytes)) v
 
 -- role 0 inherits 1; static pairs 1 with 2 and 0 with 2; role 3 depends on 1
 abbrev pub sample : List ℕ
@@ -27,6 +27,6 @@ cyclic = 1 ∷ 2 ∷ 4 ∷ 2 ∷ 2 ∷ 0 ∷ 1 ∷ 2 ∷ 1 ∷ 0 ∷ 12 ∷ []
 
 pub record Worked : Type 0 where
   pub the_sample_passes : Judged sample 17 (Ok tt)
-  pub a_senior_lacks_a_conflict : Judged unpaired 14 (Err (LostConflict 0 1 2))
+  pub a_senior_lacks_a_conflict : Judged unpaired 14 (Err (UninheritedConflict 0 1 2))
   pub in_conflict_with_itself : Judged selfpaired 8 (Err (SelfConflict 2))
   pub inheriting_each_other : Judged cyclic 11 (Err (Cycle 0 1))

@@ -3,13 +3,19 @@
 
 pub mod approved;
 pub mod asking;
-pub mod check;
 pub mod checked;
 pub mod draft;
-pub mod questions;
-pub mod reading;
+mod questions;
+mod reading;
 pub mod rows;
 pub mod seniority;
 pub mod tables;
 pub mod verdict;
 pub mod worked;
+
+pub use approved::Approved;
+pub use checked::Checked;
+pub use draft::Draft;
+pub use seniority::Seniority;
+pub use tables::Tables;
+pub use verdict::{Failure, Verdict};

@@ -1,11 +1,10 @@
-// A draft read from bytes.
-ghost use Rattle.std.specs.Prelude.{◌≡◌, ◌-◌, ◌≤◌, true, not, [], length, is_some, IfOk, None, Ok, Err, MatchResult, slice_index_or, slice_set};
+// The tables of a draft, read from bytes record by record.
+ghost use Rattle.std.specs.Prelude.{◌≡◌, ◌≤◌, length, IfOk, Ok, Err, MatchResult};
 ghost use Rattle.policy.specs.WellFormed.{WellFormed};
-ghost use Rattle.policy.specs.Updates.{only, bare, with_role};
-ghost use Rattle.policy.specs.Reading.{is_sizes, is_end, in_range, differ, unlimited, entered, applied, reading, answered, drafted};
+ghost use Rattle.policy.specs.Updates.{only, bare};
+ghost use Rattle.policy.specs.Reading.{is_sizes, is_end, in_range, has_distinct_pair, is_unlimited, with_required, with_entry, after_entry, reading};
 
 use crate::asking::check;
-use crate::draft::Draft;
 use crate::rows::{add, add_pair, add_users, at_or, put};
 use crate::tables::{
     Dependencies, Hierarchy, Limits, Requirements, RoleConflicts, Sizes, Tables, UserConflicts,
@@ -15,12 +14,16 @@ use records::fault::Fault;
 use records::taking::take;
 use sets::{RoleSet, UserSet};
 
-// The sizes of a bare draft.
-const ONE_EACH: Sizes = Sizes {
-    users: 1,
-    roles: 1,
-    sessions: 1,
-};
+// The tables with one user, role and session, and nothing else.
+pub(crate) fn bare_tables() -> Tables
+    ensures { result ≡ bare }
+{
+    only(Sizes {
+        users: 1,
+        roles: 1,
+        sessions: 1,
+    })
+}
 
 // Tables with these sizes, and nothing else.
 #[tactic(auto, unfolding(crate::specs::Updates::only))]
@@ -33,7 +36,7 @@ fn only(sizes: Sizes) -> Tables
         hierarchy: Hierarchy { juniors: no_roles },
         ssd: RoleConflicts { partners: no_roles },
         dsd: RoleConflicts { partners: no_roles },
-        conflicting: UserConflicts {
+        activation_conflicts: UserConflicts {
             partners: [[UserSet::empty(); 64]; 32],
         },
         limits: Limits {
@@ -84,7 +87,7 @@ fn in_range(sizes: Sizes, entry: Entry) -> bool
             < sizes.roles,
         Entry::LimitOfUserRoles { user, .. } | Entry::LimitOfUserActive { user, .. } => user
             < sizes.users,
-        // Kept: a condition out of range is a later question than the kind, so the entry carries each number as it stands in the bytes.
+        // An entry carries each number as it stands in the bytes, so a condition is asked here.
         Entry::Required {
             condition,
             role,
@@ -96,8 +99,8 @@ fn in_range(sizes: Sizes, entry: Entry) -> bool
 }
 
 // Whether the last two numbers differ, where they have to.
-fn differs(entry: Entry) -> bool
-    ensures { result ≡ differ entry }
+fn has_distinct_pair(entry: Entry) -> bool
+    ensures { result ≡ has_distinct_pair entry }
 {
     match entry {
         Entry::ConflictingUsers { first, second, .. } => first != second,
@@ -108,13 +111,13 @@ fn differs(entry: Entry) -> bool
 
 // Whether the subject of a limit had none.
 fn is_unlimited(limits: &Limits, entry: Entry) -> bool
-    ensures { result ≡ unlimited limits.now entry }
+    ensures { result ≡ is_unlimited limits.now entry }
 {
     let limit = match entry {
-        Entry::LimitOfRoleUsers { role, .. } => at_or(&limits.users, role, None),
-        Entry::LimitOfUserRoles { user, .. } => at_or(&limits.roles, user, None),
-        Entry::LimitOfUserActive { user, .. } => at_or(&limits.active, user, None),
-        Entry::LimitOfRoleSessions { role, .. } => at_or(&limits.sessions, role, None),
+        Entry::LimitOfRoleUsers { role, .. } => limits.users(role),
+        Entry::LimitOfUserRoles { user, .. } => limits.roles(user),
+        Entry::LimitOfUserActive { user, .. } => limits.active(user),
+        Entry::LimitOfRoleSessions { role, .. } => limits.sessions(role),
         _ => None,
     };
     limit.is_none()
@@ -122,7 +125,8 @@ fn is_unlimited(limits: &Limits, entry: Entry) -> bool
 
 // Adds a role to those that the condition requires of another.
 fn add_required(requirements: &mut Requirements, condition: u8, role: u8, required: u8)
-    ensures { requirements.new ≡ record { sets = slice_set requirements.old.sets (condition - 1) (with_role (slice_index_or requirements.old.sets (condition - 1) []) role required) } }
+    ensures { requirements.new
+        ≡ record { sets = with_required requirements.old.sets condition role required } }
 {
     let at = condition.saturating_sub(1);
     let mut rows = at_or(&requirements.sets, at, [RoleSet::empty(); 32]);
@@ -132,7 +136,7 @@ fn add_required(requirements: &mut Requirements, condition: u8, role: u8, requir
 
 // Enters what the entry says; a sizes record begins anew.
 fn enter(tables: &mut Tables, entry: Entry)
-    ensures { tables.new ≡ entered tables.old entry }
+    ensures { tables.new ≡ with_entry tables.old entry }
 {
     match entry {
         Entry::Sizes {
@@ -151,7 +155,12 @@ fn enter(tables: &mut Tables, entry: Entry)
             role,
             first,
             second,
-        } => add_users(&mut tables.conflicting.partners, role, first, second),
+        } => add_users(
+            &mut tables.activation_conflicts.partners,
+            role,
+            first,
+            second,
+        ),
         Entry::LimitOfRoleUsers { role, limit } => put(&mut tables.limits.users, role, Some(limit)),
         Entry::LimitOfUserRoles { user, limit } => put(&mut tables.limits.roles, user, Some(limit)),
         Entry::LimitOfUserActive { user, limit } => put(
@@ -176,7 +185,9 @@ fn enter(tables: &mut Tables, entry: Entry)
 
 // The questions of a whole record at a place, in their order; then what it says is entered.
 fn apply(tables: &mut Tables, entry: Entry, at: usize) -> Result<(), Fault>
-    ensures { MatchResult result (λ _. applied tables.old entry at ≡ Ok tables.new) (λ f. applied tables.old entry at ≡ Err f) }
+    ensures { MatchResult result
+        (λ _. after_entry tables.old entry at ≡ Ok tables.new)
+        (λ f. after_entry tables.old entry at ≡ Err f) }
 {
     check(
         is_sizes(entry) == (at == 0),
@@ -186,7 +197,7 @@ fn apply(tables: &mut Tables, entry: Entry, at: usize) -> Result<(), Fault>
         in_range(tables.sizes, entry),
         Fault::OutOfRange { place: at },
     )?;
-    check(differs(entry), Fault::EqualPair { place: at })?;
+    check(has_distinct_pair(entry), Fault::EqualPair { place: at })?;
     check(
         is_unlimited(&tables.limits, entry),
         Fault::RepeatedLimit { place: at },
@@ -195,16 +206,15 @@ fn apply(tables: &mut Tables, entry: Entry, at: usize) -> Result<(), Fault>
     Ok(())
 }
 
-// Kept: that no more bytes are read than there are ties an answer to an argument, which no type carries.
 // The tables read from the bytes and how many bytes that took, or the first fault.
-fn read_tables(bytes: &[u8]) -> Result<(Tables, usize), Fault>
+pub(crate) fn read_tables(bytes: &[u8]) -> Result<(Tables, usize), Fault>
     ensures answer { result ≡ reading bytes.now }
     ensures tables { IfOk result (λ p. WellFormed p.0) }
     ensures within { IfOk result (λ p. p.1 ≤ length bytes.now) }
 {
-    let mut tables = only(ONE_EACH);
+    let mut tables = bare_tables();
     let mut rest = bytes;
-    // Kept: a loop, since how long a record is shows only once it is taken.
+    // How long a record is shows only once it is taken.
     loop {
         let at = bytes.len() - rest.len();
         let (entry, tail) = take::<Entry>(rest, at)?;
@@ -213,29 +223,5 @@ fn read_tables(bytes: &[u8]) -> Result<(Tables, usize), Fault>
             return Ok((tables, bytes.len() - tail.len()));
         }
         rest = tail;
-    }
-}
-
-impl Draft {
-    // The bare draft: one user, role and session, and nothing else.
-    #[tactic(auto, using(crate::proofs::Keeping::bare_well_formed))]
-    pub fn bare() -> Draft
-        ensures { result.tables ≡ bare }
-    {
-        Draft {
-            tables: only(ONE_EACH),
-        }
-    }
-
-    // Reads a policy up to its end record, and answers how many bytes that took; after a refusal the draft is bare.
-    pub fn read(&mut self, bytes: &[u8]) -> Result<usize, Fault>
-        ensures answer { result ≡ answered (reading bytes.now) }
-        ensures draft { self.new.tables ≡ drafted (reading bytes.now) }
-        ensures within { IfOk result (λ n. n ≤ length bytes.now) }
-    {
-        *self = Draft::bare();
-        let (tables, count) = read_tables(bytes)?;
-        *self = Draft { tables };
-        Ok(count)
     }
 }

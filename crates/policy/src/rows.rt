@@ -4,19 +4,19 @@ ghost use Rattle.policy.specs.Updates.{with_one, with_both, with_users};
 
 use sets::{BitSet, UserSet, Word};
 
-// The entry at a place, or the other value past the end.
+/// The entry at a place, or the other value past the end.
 pub fn at_or<T: Copy>(rows: &[T], at: u8, or: T) -> T
     ensures { result ≡ slice_index_or rows.now at or }
 {
     rows.get(usize::from(at)).copied().unwrap_or(or)
 }
 
-// Writes the entry at a place; past the end it writes nothing.
+/// Writes the entry at a place; past the end it writes nothing.
 pub fn put<T: Copy>(rows: &mut [T], at: u8, entry: T)
     ensures { rows.new ≡ slice_set rows.old at entry }
 {
     let at = usize::from(at);
-    // Kept: `get_mut` in place of this test does not prove, since no clause ties what it lends to the slice after it.
+    // No clause of `get_mut` ties what it lends to the slice after it.
     if at < rows.len() {
         rows[at] = entry;
     }

@@ -2,24 +2,26 @@
 ghost use Rattle.std.specs.Prelude.{◌≡◌, map};
 ghost use Rattle.std.specs.List.{range_with_len};
 ghost use Rattle.policy.specs.Entries.{holds};
-ghost use Rattle.policy.specs.Seniority.{extended, gathered, closure, only_itself, spread_rows, TellsSeniority};
+ghost use Rattle.policy.specs.Seniority.{row_with_below, rows_union, closure, only_itself, spread_rows, TellsSeniority};
 
 use crate::draft::Draft;
 use crate::rows::at_or;
 use sets::RoleSet;
 use std::array;
 
-// For each role, the roles that it is senior to: itself, and all that it inherits step by step.
+/// For each role, the roles that it is senior to: itself, and all that it inherits step by step.
 #[derive(Clone, Copy)]
 pub struct Seniority {
     pub rows: [RoleSet; 32],
 }
 
 impl Seniority {
-    // The seniority that the hierarchy of the draft gives.
+    ghost use Rattle.policy.specs.Approved.{drafted_tables};
+
+    /// The seniority that the hierarchy of the draft gives.
     pub fn of(draft: &Draft) -> Seniority
-        ensures value { result.rows ≡ closure draft.now.tables.hierarchy.juniors }
-        ensures tells { TellsSeniority draft.now.tables.hierarchy.juniors result.rows }
+        ensures value { result.rows ≡ closure (drafted_tables draft.now).hierarchy.juniors }
+        ensures tells { TellsSeniority (drafted_tables draft.now).hierarchy.juniors result.rows }
     {
         let mut rows = alone();
         for role in 0..32u8 {
@@ -33,16 +35,16 @@ impl Seniority {
         Seniority { rows }
     }
 
-    // Whether the first role is senior to the second.
+    /// Whether the first role is senior to the second, which every role is to itself.
     pub fn is_senior(&self, senior: u8, junior: u8) -> bool
         ensures { result ≡ holds self.now.rows senior junior }
     {
         at_or(&self.rows, senior, RoleSet::empty()).contains(junior)
     }
 
-    // The roles that some role of the set is senior to.
+    /// The roles that some role of the set is senior to.
     pub fn below(&self, roles: RoleSet) -> RoleSet
-        ensures { result ≡ record { bits = gathered self.now.rows roles 32 } }
+        ensures { result ≡ record { bits = rows_union self.now.rows roles 32 } }
     {
         gather(&self.rows, roles)
     }
@@ -55,19 +57,22 @@ fn alone() -> [RoleSet; 32]
     array::from_fn(|role| RoleSet::empty().with(role as u8))
 }
 
-// The members of the rows of the chosen roles.
+/// The members of the rows of the chosen roles.
 pub fn gather(rows: &[RoleSet; 32], chosen: RoleSet) -> RoleSet
-    ensures { result ≡ record { bits = gathered rows.now chosen 32 } }
+    ensures { result ≡ record { bits = rows_union rows.now chosen 32 } }
 {
-    (0..32u8).filter(|&role| chosen.contains(role)).fold(
-        RoleSet::empty(),
-        |all, role| all.union(at_or(rows, role, RoleSet::empty())),
-    )
+    let mut all = RoleSet::empty();
+    let mut rest = chosen;
+    while let Some(role) = rest.lowest() {
+        all = all.union(at_or(rows, role, RoleSet::empty()));
+        rest = rest.without(role);
+    }
+    all
 }
 
 // The row with the roles below `role`, where it has that role.
 fn extend(row: RoleSet, role: u8, below: RoleSet) -> RoleSet
-    ensures { result ≡ extended role below.bits row }
+    ensures { result ≡ row_with_below role below.bits row }
 {
     if row.contains(role) {
         row.union(below)

@@ -1,27 +1,32 @@
-// The plain tables of a policy, one struct for each concern; a policy is their product.
+// The plain tables of a policy, one struct for each concern; a policy is their product. Each has
+// an entry for every number there may be, so that no table allocates, and tables alike in shape are
+// types of their own, so that none is passed for another.
 ghost use Rattle.std.specs.Prelude.{◌≡◌, [], slice_index_or};
 ghost use Rattle.policy.specs.Entries.{no_roles, no_users};
+ghost use Rattle.policy.specs.Limits.{limit_of_users, limit_of_roles, limit_of_active, limit_of_sessions};
 
 use crate::rows::at_or;
 use sets::{RoleSet, UserSet};
 
-// How many users, roles and sessions there are, each numbered from 0.
+/// How many users, roles and sessions there are, each numbered from 0.
 #[derive(Clone, Copy)]
 pub struct Sizes {
+    /// From 1 to 64.
     pub users: u8,
+    /// From 1 to 32.
     pub roles: u8,
+    /// From 1 to 64.
     pub sessions: u8,
 }
 
-// Kept: tables alike in shape are types of their own, so that none is passed for another; they share `at_or`.
-// The role hierarchy as written: for each role, those that it inherits directly.
+/// The role hierarchy as written: for each role, those that it inherits directly.
 #[derive(Clone, Copy)]
 pub struct Hierarchy {
     pub juniors: [RoleSet; 32],
 }
 
 impl Hierarchy {
-    // The roles that this one inherits directly.
+    /// The roles that this one inherits directly; none past the last role.
     pub fn of(&self, role: u8) -> RoleSet
         ensures { result ≡ slice_index_or self.now.juniors role no_roles }
     {
@@ -29,14 +34,14 @@ impl Hierarchy {
     }
 }
 
-// Unordered pairs of roles, stored both ways: for each role, those in conflict with it.
+/// Unordered pairs of roles, stored both ways: for each role, those in conflict with it.
 #[derive(Clone, Copy)]
 pub struct RoleConflicts {
     pub partners: [RoleSet; 32],
 }
 
 impl RoleConflicts {
-    // The roles in conflict with this one.
+    /// The roles in conflict with this one; none past the last role.
     pub fn of(&self, role: u8) -> RoleSet
         ensures { result ≡ slice_index_or self.now.partners role no_roles }
     {
@@ -44,14 +49,15 @@ impl RoleConflicts {
     }
 }
 
-// Unordered pairs of users for a role, stored both ways: for each role and user, the users in conflict with that user.
+/// Unordered pairs of users for a role, stored both ways: for each role and user, the users in
+/// conflict with that user.
 #[derive(Clone, Copy)]
 pub struct UserConflicts {
     pub partners: [[UserSet; 64]; 32],
 }
 
 impl UserConflicts {
-    // The users in conflict with this one for a role.
+    /// The users in conflict with this one for a role; none past the last role or user.
     pub fn of(&self, role: u8, user: u8) -> UserSet
         ensures { result ≡ slice_index_or (slice_index_or self.now.partners role []) user no_users }
     {
@@ -61,41 +67,72 @@ impl UserConflicts {
     }
 }
 
-// Kept: fixed memory is a rule of the project, so each table has an entry for every number, beside the sizes; each is asked by itself.
-// The four limits; none where no record set one.
+/// The four limits; none where no record set one.
 #[derive(Clone, Copy)]
 pub struct Limits {
-    // users authorised for a role
+    /// The most users authorised for each role.
     pub users: [Option<u8>; 32],
-    // roles authorised for a user
+    /// The most roles that each user is authorised for.
     pub roles: [Option<u8>; 64],
-    // roles active for a user
+    /// The most roles active for each user.
     pub active: [Option<u8>; 64],
-    // sessions with a role active
+    /// The most sessions with each role active.
     pub sessions: [Option<u8>; 32],
 }
 
-// The six required sets of each role, by the condition less one:
-// enabled; assigned to the same user, to any users; active for any users, in the same session, for the owner.
+impl Limits {
+    /// The most users that may be authorised for the role; none where no record set a limit.
+    pub fn users(&self, role: u8) -> Option<u8>
+        ensures { result ≡ limit_of_users self.now role }
+    {
+        at_or(&self.users, role, None)
+    }
+
+    /// The most roles that the user may be authorised for.
+    pub fn roles(&self, user: u8) -> Option<u8>
+        ensures { result ≡ limit_of_roles self.now user }
+    {
+        at_or(&self.roles, user, None)
+    }
+
+    /// The most roles that may be active for the user.
+    pub fn active(&self, user: u8) -> Option<u8>
+        ensures { result ≡ limit_of_active self.now user }
+    {
+        at_or(&self.active, user, None)
+    }
+
+    /// The most sessions that may have the role active.
+    pub fn sessions(&self, role: u8) -> Option<u8>
+        ensures { result ≡ limit_of_sessions self.now role }
+    {
+        at_or(&self.sessions, role, None)
+    }
+}
+
+/// For each condition less one and each role, the roles that it requires.
+///
+/// The six conditions: enabled; assigned to the same user; assigned to any users; active for any
+/// users; active in the same session; active for the owner.
 #[derive(Clone, Copy)]
 pub struct Requirements {
     pub sets: [[RoleSet; 32]; 6],
 }
 
-// For each role, those that have to be active in some session while it is.
+/// For each role, those that have to be active in some session while it is.
 #[derive(Clone, Copy)]
 pub struct Dependencies {
     pub needs: [RoleSet; 32],
 }
 
-// A policy: `ssd` is static and `dsd` dynamic separation of duty.
+/// A policy: `ssd` is static and `dsd` dynamic separation of duty.
 #[derive(Clone, Copy)]
 pub struct Tables {
     pub sizes: Sizes,
     pub hierarchy: Hierarchy,
     pub ssd: RoleConflicts,
     pub dsd: RoleConflicts,
-    pub conflicting: UserConflicts,
+    pub activation_conflicts: UserConflicts,
     pub limits: Limits,
     pub requirements: Requirements,
     pub dependencies: Dependencies,

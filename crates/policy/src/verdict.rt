@@ -1,31 +1,39 @@
+// What is answered on a policy: it passes, or it fails a question.
 ghost use Rattle.std.specs.Prelude.{◌≡◌};
 ghost use Rattle.policy.specs.Verdicts.{failure_number, failure_names, number_of, names_of};
 
-// The question that a policy fails, with its lowest witness.
-#[derive(Clone, Copy, PartialEq, Eq, Debug)]
+use thiserror::Error;
+
+/// The question that a policy fails, with its lowest witness: users and roles by their numbers.
+#[derive(Clone, Copy, Debug, PartialEq, Eq, Error)]
 pub enum Failure {
-    // two different roles are each senior to the other
+    /// Two different roles are each senior to the other; the lower comes first.
+    #[error("roles {first} and {second} are each senior to the other")]
     Cycle {
         first: u8,
         second: u8,
     },
-    // a role is in static or dynamic conflict with itself
+    /// A role is in static or dynamic conflict with itself.
+    #[error("role {role} is in conflict with itself")]
     SelfConflict {
         role: u8,
     },
-    // `junior` is in static conflict with `other`, and its senior is not
-    LostConflict {
+    /// `junior` is in static conflict with `other`, and its senior is not.
+    #[error("role {junior} is in static conflict with role {other}, and its senior {senior} is not")]
+    UninheritedConflict {
         senior: u8,
         junior: u8,
         other: u8,
     },
-    // a pair is in both static and dynamic conflict
+    /// Two roles are in both static and dynamic conflict.
+    #[error("roles {first} and {second} are in both static and dynamic conflict")]
     BothConflicts {
         first: u8,
         second: u8,
     },
-    // two users conflict for `junior`, and not for its senior
-    LostUsers {
+    /// Two users conflict for `junior`, and not for its senior.
+    #[error("users {first} and {second} conflict for role {junior}, and not for its senior {senior}")]
+    UninheritedUserConflict {
         senior: u8,
         junior: u8,
         first: u8,
@@ -33,37 +41,37 @@ pub enum Failure {
     },
 }
 
-// The verdict on a policy: it passes, or it fails a question.
+/// The verdict on a policy: it passes, or it fails a question.
 pub type Verdict = Result<(), Failure>;
 
 impl Failure {
-    // The number that is printed for the failed question.
+    /// The number that is printed for the failed question, from 11 to 15.
     pub fn number(self) -> u8
         ensures { result ≡ failure_number self }
     {
         match self {
             Failure::Cycle { .. } => 11,
             Failure::SelfConflict { .. } => 12,
-            Failure::LostConflict { .. } => 13,
+            Failure::UninheritedConflict { .. } => 13,
             Failure::BothConflicts { .. } => 14,
-            Failure::LostUsers { .. } => 15,
+            Failure::UninheritedUserConflict { .. } => 15,
         }
     }
 
-    // The four names of the witness; unused ones are 0.
+    /// The four names of the witness, as they are printed; unused ones are 0.
     pub fn names(self) -> [u8; 4]
         ensures { result ≡ failure_names self }
     {
         match self {
             Failure::Cycle { first, second } => [first, second, 0, 0],
             Failure::SelfConflict { role } => [role, 0, 0, 0],
-            Failure::LostConflict {
+            Failure::UninheritedConflict {
                 senior,
                 junior,
                 other,
             } => [senior, junior, other, 0],
             Failure::BothConflicts { first, second } => [first, second, 0, 0],
-            Failure::LostUsers {
+            Failure::UninheritedUserConflict {
                 senior,
                 junior,
                 first,
@@ -73,8 +81,7 @@ impl Failure {
     }
 }
 
-// The number that is printed for a verdict: 0 where the policy passes.
-// Kept: a match says both cases, here and for the names, as plainly as `err` and `map_or` would.
+/// The number that is printed for a verdict: 0 where the policy passes.
 pub fn number(verdict: Verdict) -> u8
     ensures { result ≡ number_of verdict }
 {
@@ -84,7 +91,7 @@ pub fn number(verdict: Verdict) -> u8
     }
 }
 
-// The four names that are printed for a verdict.
+/// The four names that are printed for a verdict; all are 0 where the policy passes.
 pub fn names(verdict: Verdict) -> [u8; 4]
     ensures { result ≡ names_of verdict }
 {

@@ -3,23 +3,26 @@ ghost use Rattle.std.specs.Prelude.{◌≡◌};
 ghost use Rattle.policy.specs.Worked as worked;
 ghost use Rattle.policy.specs.Worked.{Worked};
 
-// Four small policies as bytes.
+/// Four small policies as bytes.
 #[derive(Clone, Copy)]
 pub struct Policies {
-    // role 0 inherits 1; static pairs 1 with 2 and 0 with 2; role 3 depends on 1
+    /// Role 0 inherits 1; static pairs 1 with 2 and 0 with 2; role 3 depends on 1.
     pub sample: [u8; 17],
-    // the same without the pair of 0 and 2
+    /// The same without the pair of 0 and 2.
     pub unpaired: [u8; 14],
-    // role 2 in static conflict with itself
+    /// Role 2 in static conflict with itself.
     pub selfpaired: [u8; 8],
-    // roles 0 and 1 inherit each other
+    /// Roles 0 and 1 inherit each other.
     pub cyclic: [u8; 11],
 }
 
-// The four, with the verdict that the written rules give on each.
-#[tactic(auto, using(crate::proofs::Policies::policies))]
+/// The four, with the verdict that the written rules give on each.
+#[tactic(auto, using(crate::specs::WorkedLaws::policies))]
 pub fn worked_policies() -> Policies
-    ensures value { (result.sample ≡ worked.sample) × (result.unpaired ≡ worked.unpaired) × (result.selfpaired ≡ worked.selfpaired) × (result.cyclic ≡ worked.cyclic) }
+    ensures value { (result.sample ≡ worked.sample)
+        × (result.unpaired ≡ worked.unpaired)
+        × (result.selfpaired ≡ worked.selfpaired)
+        × (result.cyclic ≡ worked.cyclic) }
     ensures law { Worked }
 {
     Policies {

@@ -4,3 +4,5 @@
 pub mod input;
 #[cfg(test)]
 mod tests;
+
+pub use input::print_roll;

@@ -1,5 +1,5 @@
 -- The entry that a policy's record is, by its kind and its body. Assumes nothing.
-use Rattle.std.specs.Prelude.{ℕ, cond, List, [], ◌∷◌, Some, None, Option, Result, ◌==◌}
+use Rattle.std.specs.Prelude.{ℕ, if◌then◌else◌, List, [], ◌∷◌, Some, None, Option, Result, ◌==◌}
 use Rattle.std.specs.Borrow.{Bor}
 use Rattle.records.specs.Parts.{Took, Taken, taken}
 use Rattle.records.specs.declared.kinds.Reader.TheVariants.{Policy}
@@ -9,21 +9,23 @@ use Rattle.records.specs.declared.entry.Entry.TheVariants.{Sizes, Inherits, Stat
 
 -- by the number of bytes in the body, then by the kind
 abbrev pub entry_of : ℕ → List ℕ → Option Entry
-entry_of k [] = cond (k == 12) (Some End) None
+entry_of k [] = if k == 12 then Some End else None
 entry_of k (a ∷ []) = None
 entry_of k (a ∷ b ∷ []) =
-    cond (k == 2) (Some (Inherits a b))
-    (cond (k == 3) (Some (StaticPair a b))
-    (cond (k == 4) (Some (DynamicPair a b))
-    (cond (k == 6) (Some (LimitOfRoleUsers a b))
-    (cond (k == 7) (Some (LimitOfUserRoles a b))
-    (cond (k == 8) (Some (LimitOfUserActive a b))
-    (cond (k == 9) (Some (LimitOfRoleSessions a b))
-    (cond (k == 11) (Some (Dependency a b)) None)))))))
+    if k == 2 then Some (Inherits a b)
+    else if k == 3 then Some (StaticPair a b)
+    else if k == 4 then Some (DynamicPair a b)
+    else if k == 6 then Some (LimitOfRoleUsers a b)
+    else if k == 7 then Some (LimitOfUserRoles a b)
+    else if k == 8 then Some (LimitOfUserActive a b)
+    else if k == 9 then Some (LimitOfRoleSessions a b)
+    else if k == 11 then Some (Dependency a b)
+    else None
 entry_of k (a ∷ b ∷ c ∷ []) =
-    cond (k == 1) (Some (Sizes a b c))
-    (cond (k == 5) (Some (ConflictingUsers a b c))
-    (cond (k == 10) (Some (Required a b c)) None))
+    if k == 1 then Some (Sizes a b c)
+    else if k == 5 then Some (ConflictingUsers a b c)
+    else if k == 10 then Some (Required a b c)
+    else None
 entry_of k (a ∷ b ∷ c ∷ d ∷ more) = None
 
 -- the entry at the front, or the fault at its place

@@ -1,5 +1,5 @@
 -- The event that a record is, by its kind and its body. Assumes nothing.
-use Rattle.std.specs.Prelude.{ℕ, cond, List, [], ◌∷◌, Some, None, Option, Result, ◌==◌}
+use Rattle.std.specs.Prelude.{ℕ, if◌then◌else◌, List, [], ◌∷◌, Some, None, Option, Result, ◌==◌}
 use Rattle.std.specs.Borrow.{Bor}
 use Rattle.records.specs.Parts.{Took, Taken, taken}
 use Rattle.records.specs.declared.kinds.Reader.TheVariants.{Events}
@@ -11,17 +11,20 @@ use Rattle.records.specs.declared.event.Event.TheVariants.{Assign, Deassign, Ena
 abbrev pub event_of : ℕ → List ℕ → Option Event
 event_of k [] = None
 event_of k (a ∷ []) =
-    cond (k == 34) (Some (Enable a))
-    (cond (k == 35) (Some (Disable a))
-    (cond (k == 37) (Some (Close a)) None))
+    if k == 34 then Some (Enable a)
+    else if k == 35 then Some (Disable a)
+    else if k == 37 then Some (Close a)
+    else None
 event_of k (a ∷ b ∷ []) =
-    cond (k == 32) (Some (Assign a b))
-    (cond (k == 33) (Some (Deassign a b))
-    (cond (k == 36) (Some (Open a b))
-    (cond (k == 38) (Some (Activate a b))
-    (cond (k == 39) (Some (Deactivate a b)) None))))
+    if k == 32 then Some (Assign a b)
+    else if k == 33 then Some (Deassign a b)
+    else if k == 36 then Some (Open a b)
+    else if k == 38 then Some (Activate a b)
+    else if k == 39 then Some (Deactivate a b)
+    else None
 event_of k (a ∷ b ∷ c ∷ more) = None
 
+-- the kind of the record that asks for the event
 abbrev pub kind_of : Event → ℕ
 kind_of (Assign u r) = 32
 kind_of (Deassign u r) = 33

@@ -3,6 +3,7 @@ use Rattle.std.specs.Prelude.{ℕ}
 use Rattle.records.specs.declared.fault.Fault.{Fault}
 use Rattle.records.specs.declared.fault.Fault.TheVariants.{UnknownKind, CutBody, MisplacedSizes, OutOfRange, EqualPair, RepeatedLimit, NoByte}
 
+-- the number that is printed for the fault
 abbrev pub number_of : Fault → ℕ
 number_of (UnknownKind at) = 1
 number_of (CutBody at) = 2

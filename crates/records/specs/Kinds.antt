@@ -1,8 +1,9 @@
 -- The kinds of record: which reader takes which, and how long the body of each is. Assumes nothing.
-use Rattle.std.specs.Prelude.{ℕ, Bool, cond, ◌&&◌, ◌||◌, Some, None, Option, ◌==◌, nat_le}
+use Rattle.std.specs.Prelude.{ℕ, Bool, if◌then◌else◌, ◌&&◌, ◌||◌, Some, None, Option, ◌==◌, nat_le}
 use Rattle.records.specs.declared.kinds.Reader.{Reader}
 use Rattle.records.specs.declared.kinds.Reader.TheVariants.{Policy, Events}
 
+-- low and high belong to it
 abbrev pub between : ℕ → ℕ → ℕ → Bool
 between low high k = nat_le low k && nat_le k high
 
@@ -14,7 +15,8 @@ reads Events k = between 32 39 k
 -- the body length of a kind, or none where the kind is unknown
 unfoldable pub body_length : ℕ → Option ℕ
 body_length k =
-    cond (k == 12) (Some 0)
-    (cond (k == 34 || k == 35 || k == 37) (Some 1)
-    (cond (k == 1 || k == 5 || k == 10) (Some 3)
-    (cond (between 2 11 k || between 32 39 k) (Some 2) None)))
+    if k == 12 then Some 0
+    else if k == 34 || k == 35 || k == 37 then Some 1
+    else if k == 1 || k == 5 || k == 10 then Some 3
+    else if between 2 11 k || between 32 39 k then Some 2
+    else None

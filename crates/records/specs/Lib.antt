@@ -3,3 +3,4 @@ pub mod Kinds
 pub mod Parts
 pub mod Entries
 pub mod Events
+pub mod PlaceLaws

@@ -1,60 +1,73 @@
+// The records of a policy.
 ghost use Rattle.records.specs.Entries.{entry_of};
 ghost use Rattle.records.specs.declared.kinds.Reader.TheVariants.{Policy};
 
 use crate::kinds::Reader;
 use crate::taking::Record;
 
-// One record of a policy, by its kind; every number is as it stands in the bytes.
+/// One record of a policy. Each number is a byte of the body as it is there, in range or not.
 #[derive(Clone, Copy, PartialEq, Eq)]
 pub enum Entry {
+    /// Kind 1, how many users, roles and sessions there are.
     Sizes {
         users: u8,
         roles: u8,
         sessions: u8,
     },
+    /// Kind 2, the senior role inherits the junior role.
     Inherits {
         senior: u8,
         junior: u8,
     },
+    /// Kind 3, two roles in static conflict.
     StaticPair {
         first: u8,
         second: u8,
     },
+    /// Kind 4, two roles in dynamic conflict.
     DynamicPair {
         first: u8,
         second: u8,
     },
+    /// Kind 5, two users in conflict over a role.
     ConflictingUsers {
         role: u8,
         first: u8,
         second: u8,
     },
+    /// Kind 6, the most users that may be authorised for the role.
     LimitOfRoleUsers {
         role: u8,
         limit: u8,
     },
+    /// Kind 7, the most roles that the user may be authorised for.
     LimitOfUserRoles {
         user: u8,
         limit: u8,
     },
+    /// Kind 8, the most roles that the user may have active.
     LimitOfUserActive {
         user: u8,
         limit: u8,
     },
+    /// Kind 9, the most sessions that may have the role active.
     LimitOfRoleSessions {
         role: u8,
         limit: u8,
     },
+    /// Kind 10, the role requires another, by the condition of this number.
     Required {
-        // Kept: a condition out of range is a later question than the kind, so the entry carries each number as it stands in the bytes.
+        // A number: whether it is in range is asked after the kind, and of a whole record.
         condition: u8,
         role: u8,
         required: u8,
     },
+    /// Kind 11, the role depends on another.
     Dependency {
         role: u8,
         needs: u8,
     },
+    /// Kind 12, the end of the policy.
     End,
 }
 

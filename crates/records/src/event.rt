@@ -1,3 +1,4 @@
+// The records of events.
 ghost use Rattle.std.specs.Prelude.{◌≡◌};
 ghost use Rattle.records.specs.Events.{event_of, kind_of};
 ghost use Rattle.records.specs.declared.kinds.Reader.TheVariants.{Events};
@@ -5,22 +6,29 @@ ghost use Rattle.records.specs.declared.kinds.Reader.TheVariants.{Events};
 use crate::kinds::Reader;
 use crate::taking::Record;
 
-// One event as it is asked for; every number is as it stands in the bytes.
+/// One event as it is asked for. Each number is a byte of the body as it is there, in range or not.
 #[derive(Clone, Copy, PartialEq, Eq)]
 pub enum Event {
+    /// Kind 32, assign the role to the user.
     Assign { user: u8, role: u8 },
+    /// Kind 33, take the role from the user.
     Deassign { user: u8, role: u8 },
+    /// Kind 34, enable the role.
     Enable { role: u8 },
+    /// Kind 35, disable the role.
     Disable { role: u8 },
+    /// Kind 36, open the session for the user.
     Open { session: u8, user: u8 },
+    /// Kind 37, close the session.
     Close { session: u8 },
+    /// Kind 38, activate the role in the session.
     Activate { session: u8, role: u8 },
+    /// Kind 39, deactivate the role in the session.
     Deactivate { session: u8, role: u8 },
 }
 
 impl Event {
-    // Kept: a row writes the byte; here and in `decode` alone does a kind become its number and back.
-    // The kind of the record that asks for it.
+    /// The kind of the record that asks for the event, 32 to 39.
     pub fn kind(self) -> u8
         ensures { result ≡ kind_of self }
     {

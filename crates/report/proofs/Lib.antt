@@ -1,2 +1,2 @@
-pub mod Rolling
-pub mod Resting
+pub mod EventLines
+pub mod RollLaws

@@ -1,4 +1,4 @@
 pub mod Texts
 pub mod Judging
 pub mod Roll
-pub mod Rests
+pub mod RollLaw

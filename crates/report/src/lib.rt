@@ -1,7 +1,11 @@
-// How an answer reaches paper: the lines of the roll.
+// How an answer is printed: the lines of the roll.
 #![tactic(auto)]
 
 pub mod events;
 pub mod judging;
 pub mod line;
-pub mod roll;
+pub mod rolls;
+
+pub use judging::{Judged, read_and_check};
+pub use line::{EndLine, PolicyLine, RowLine};
+pub use rolls::{roll, roll_by};

@@ -1,16 +1,16 @@
+// The lines of the roll, each a value that prints itself.
 ghost use Rattle.std.specs.Prelude.{◌≡◌, Some};
 ghost use Rattle.report.specs.Texts.{policy_line, end_line, policy_text, row_text, end_text};
 
 use crate::judging::Judged;
-use monitor::row::Row;
-use monitor::run::Outcome;
+use monitor::{Outcome, Row};
 use policy::verdict;
-use records::fault::Fault;
+use records::Fault;
 use std::fmt;
 
-// What the first line of the roll says: the number of the fault or verdict, its place or else the bytes read, four names.
-// Kept: these numbers are the written form of what was judged, which the format fixes.
-#[derive(Clone, Copy)]
+/// What the first line of the roll says: the number of the fault or verdict, the fault's place or
+/// else the bytes read, four names. Plain numbers, since the format fixes them.
+#[derive(Clone, Copy, Debug, PartialEq, Eq)]
 pub struct PolicyLine {
     pub number: u8,
     pub figure: usize,
@@ -47,8 +47,8 @@ impl fmt::Display for PolicyLine {
     }
 }
 
-// A row of the roll, after its index over the whole input.
-#[derive(Clone, Copy)]
+/// A row of the roll, after its index over the whole input, counted from 0.
+#[derive(Clone, Copy, Debug, PartialEq, Eq)]
 pub struct RowLine {
     pub index: usize,
     pub row: Row,
@@ -71,9 +71,9 @@ impl fmt::Display for RowLine {
     }
 }
 
-// The last line of the roll: how many rows, the bytes of their events, and the number of the end.
-// Kept: these numbers are the written form of an outcome, which the format fixes.
-#[derive(Clone, Copy)]
+/// The last line of the roll: how many rows, the bytes of their events, and the number of the end.
+/// Plain numbers, since the format fixes them.
+#[derive(Clone, Copy, Debug, PartialEq, Eq)]
 pub struct EndLine {
     pub rows: usize,
     pub bytes: usize,

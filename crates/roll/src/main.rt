@@ -2,7 +2,7 @@
 #![tactic(auto)]
 
 use printing::input::print_roll;
-use report::roll::roll;
+use report::roll;
 
 fn main(rt: HostRuntime) -> anyhow::Result<()> {
     print_roll(rt.alloc(), rt.stdin(), &mut rt.stdout(), |bytes| {

@@ -1,3 +1,6 @@
 pub mod Aliases
 pub mod First
 pub mod Sets
+pub mod CountLaws
+pub mod FirstLaws
+pub mod SetLaws

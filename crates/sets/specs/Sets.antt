@@ -7,7 +7,7 @@
 --   intersection a b       what is in both
 --   difference w a b       what is in a and not in b, at width w
 --   count_below k f        how many numbers below k pass f
-use Rattle.std.specs.Prelude.{ℕ, zero, suc, ◌+◌, ◌-◌, ◌/◌, ◌%◌, ◌^◌, Bool, cond, ◌==◌, bit_and, bit_or, nat_lt}
+use Rattle.std.specs.Prelude.{ℕ, zero, suc, ◌+◌, ◌-◌, ◌/◌, ◌%◌, ◌^◌, Bool, if◌then◌else◌, ◌==◌, bit_and, bit_or, nat_lt}
 
 -- the membership test: bit r of n
 unfoldable pub has : ℕ → ℕ → Bool
@@ -15,11 +15,11 @@ has n r = n / 2 ^ r % 2 == 1
 
 -- n with bit r set; past the width it stays n
 unfoldable pub with_member : ℕ → ℕ → ℕ → ℕ
-with_member w n r = cond (nat_lt r w) (bit_or n (2 ^ r)) n
+with_member w n r = if nat_lt r w then bit_or n (2 ^ r) else n
 
 -- n with bit r cleared; past the width it stays n
 unfoldable pub without_member : ℕ → ℕ → ℕ → ℕ
-without_member w n r = cond (nat_lt r w) (bit_and n (2 ^ w - 1 - 2 ^ r)) n
+without_member w n r = if nat_lt r w then bit_and n (2 ^ w - 1 - 2 ^ r) else n
 
 -- the members of either
 unfoldable pub union : ℕ → ℕ → ℕ
@@ -36,4 +36,4 @@ difference w a b = bit_and a (2 ^ w - 1 - b)
 -- how many of the numbers below k pass the test
 unfoldable pub count_below : ℕ → (ℕ → Bool) → ℕ
 count_below zero f = 0
-count_below (suc k) f = cond (f k) 1 0 + count_below k f
+count_below (suc k) f = (if f k then 1 else 0) + count_below k f

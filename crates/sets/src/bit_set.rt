@@ -5,15 +5,16 @@ ghost use Rattle.sets.specs.Sets.{has, with_member, without_member, union, inter
 
 use crate::words::Word;
 
-// A set of numbers: r is a member where bit r is set.
+/// A set of numbers below the width of a word: 32 for a `u32`, 64 for a `u64`.
 #[derive(Clone, Copy, PartialEq, Eq, Debug, Default)]
 pub struct BitSet<W> {
+    /// The members: number r is one where bit r is set.
     pub bits: W,
 }
 
 impl<W: Word> BitSet<W> {
-    // The set of no number.
-    #[tactic(auto, using(crate::proofs::Laws::of_empty))]
+    /// The set with no member.
+    #[tactic(auto, using(crate::specs::SetLaws::of_empty))]
     pub fn empty() -> BitSet<W>
         ensures value { result ≡ record { bits = W.word 0 } }
         ensures members { (k : ℕ) → has (W.value result.bits) k ≡ false }
@@ -21,70 +22,82 @@ impl<W: Word> BitSet<W> {
         BitSet { bits: W::zero() }
     }
 
-    // Whether the number is a member; none is past the width.
+    /// Whether the number is a member; one at or past the width never is.
     pub fn contains(self, member: u8) -> bool
         ensures { result ≡ has (W.value self.bits) member }
     {
         self.bits.has(member)
     }
 
-    // The set and the number; past the width, the set as it is.
-    #[tactic(auto, using(crate::proofs::Laws::of_with))]
+    /// The set with this number as a member; a number at or past the width leaves the set as it is.
+    #[tactic(auto, using(crate::specs::SetLaws::of_with))]
     pub fn with(self, member: u8) -> BitSet<W>
-        ensures value { result ≡ record { bits = W.word (with_member W.width (W.value self.bits) member) } }
-        ensures members { (k : ℕ) → has (W.value result.bits) k ≡ (has (W.value self.bits) k || (k == member && nat_lt k W.width)) }
+        ensures value { result
+            ≡ record { bits = W.word (with_member W.width (W.value self.bits) member) } }
+        ensures members { (k : ℕ) → has (W.value result.bits) k
+            ≡ (has (W.value self.bits) k || (k == member && nat_lt k W.width)) }
     {
         BitSet {
             bits: self.bits.or(W::bit(member)),
         }
     }
 
-    // The set but the number; past the width, the set as it is.
-    #[tactic(auto, using(crate::proofs::Laws::of_without))]
+    /// The set without this number; a number at or past the width leaves the set as it is.
+    #[tactic(auto, using(crate::specs::SetLaws::of_without))]
     pub fn without(self, member: u8) -> BitSet<W>
-        ensures value { result ≡ record { bits = W.word (without_member W.width (W.value self.bits) member) } }
-        ensures members { (k : ℕ) → has (W.value result.bits) k ≡ (has (W.value self.bits) k && not (k == member)) }
+        ensures value { result
+            ≡ record { bits = W.word (without_member W.width (W.value self.bits) member) } }
+        ensures members { (k : ℕ) → has (W.value result.bits) k
+            ≡ (has (W.value self.bits) k && not (k == member)) }
     {
         BitSet {
             bits: self.bits.and(W::bit(member).not()),
         }
     }
 
-    // The members of either set.
-    #[tactic(auto, using(crate::proofs::Laws::has_or), unfolding(crate::specs::Sets::union))]
+    /// The numbers that are a member of either set.
+    #[tactic(auto, using(crate::specs::SetLaws::has_or), unfolding(crate::specs::Sets::union))]
     pub fn union(self, other: BitSet<W>) -> BitSet<W>
-        ensures value { result ≡ record { bits = W.word (union (W.value self.bits) (W.value other.bits)) } }
-        ensures members { (k : ℕ) → has (W.value result.bits) k ≡ (has (W.value self.bits) k || has (W.value other.bits) k) }
+        ensures value { result
+            ≡ record { bits = W.word (union (W.value self.bits) (W.value other.bits)) } }
+        ensures members { (k : ℕ) → has (W.value result.bits) k
+            ≡ (has (W.value self.bits) k || has (W.value other.bits) k) }
     {
         BitSet {
             bits: self.bits.or(other.bits),
         }
     }
 
-    // The members of both sets.
-    #[tactic(auto, using(crate::proofs::Laws::has_and), unfolding(crate::specs::Sets::intersection))]
+    /// The numbers that are a member of both sets.
+    #[tactic(auto, using(crate::specs::SetLaws::has_and), unfolding(crate::specs::Sets::intersection))]
     pub fn intersection(self, other: BitSet<W>) -> BitSet<W>
-        ensures value { result ≡ record { bits = W.word (intersection (W.value self.bits) (W.value other.bits)) } }
-        ensures members { (k : ℕ) → has (W.value result.bits) k ≡ (has (W.value self.bits) k && has (W.value other.bits) k) }
+        ensures value { result
+            ≡ record { bits = W.word (intersection (W.value self.bits) (W.value other.bits)) } }
+        ensures members { (k : ℕ) → has (W.value result.bits) k
+            ≡ (has (W.value self.bits) k && has (W.value other.bits) k) }
     {
         BitSet {
             bits: self.bits.and(other.bits),
         }
     }
 
-    // The members of this set that the other lacks.
-    #[tactic(auto, using(crate::proofs::Laws::of_difference))]
+    /// The members of this set that are not members of the other.
+    #[tactic(auto, using(crate::specs::SetLaws::of_difference))]
     pub fn difference(self, other: BitSet<W>) -> BitSet<W>
-        ensures value { result ≡ record { bits = W.word (difference W.width (W.value self.bits) (W.value other.bits)) } }
-        ensures members { (k : ℕ) → has (W.value result.bits) k ≡ (has (W.value self.bits) k && not (has (W.value other.bits) k)) }
+        ensures value { result
+            ≡ record {
+              bits = W.word (difference W.width (W.value self.bits) (W.value other.bits));
+            } }
+        ensures members { (k : ℕ) → has (W.value result.bits) k
+            ≡ (has (W.value self.bits) k && not (has (W.value other.bits) k)) }
     {
         BitSet {
             bits: self.bits.and(other.bits.not()),
         }
     }
 
-    // Whether the set has no member.
-    #[tactic(auto, using(crate::proofs::Laws::of_is_empty))]
+    /// Whether the set has no member.
+    #[tactic(auto, using(crate::specs::SetLaws::of_is_empty))]
     pub fn is_empty(self) -> bool
         ensures value { result ≡ (W.value self.bits == 0) }
         ensures is { result ≡ true → (k : ℕ) → has (W.value self.bits) k ≡ false }
@@ -93,19 +106,13 @@ impl<W: Word> BitSet<W> {
         self.bits.is_zero()
     }
 
-    // Whether every member is one of the other set.
-    pub fn is_subset(self, other: BitSet<W>) -> bool
-        ensures value { result ≡ (difference W.width (W.value self.bits) (W.value other.bits) == 0) }
-        ensures is { result ≡ true → (k : ℕ) → has (W.value self.bits) k ≡ true → has (W.value other.bits) k ≡ true }
-        ensures isnt { ((k : ℕ) → has (W.value self.bits) k ≡ true → has (W.value other.bits) k ≡ true) → result ≡ true }
-    {
-        self.difference(other).is_empty()
-    }
-
-    // The least member, where there is one.
+    /// The least member; none where the set is empty.
     pub fn lowest(self) -> Option<u8>
         ensures value { result ≡ first_below W.width (has (W.value self.bits)) }
-        ensures members { MatchOption result ((k : ℕ) → has (W.value self.bits) k ≡ false) (λ m. (has (W.value self.bits) m ≡ true) × ((k : ℕ) → k < m → has (W.value self.bits) k ≡ false)) }
+        ensures members { MatchOption result
+            ((k : ℕ) → has (W.value self.bits) k ≡ false)
+            (λ m. (has (W.value self.bits) m ≡ true)
+            × ((k : ℕ) → k < m → has (W.value self.bits) k ≡ false)) }
     {
         if self.is_empty() {
             None
@@ -114,8 +121,8 @@ impl<W: Word> BitSet<W> {
         }
     }
 
-    // How many members there are.
-    #[tactic(auto, using(crate::proofs::Laws::ones_count))]
+    /// How many members the set has.
+    #[tactic(auto, using(crate::specs::SetLaws::ones_count))]
     pub fn count(self) -> u32
         ensures { result ≡ count_below W.width (has (W.value self.bits)) }
     {

@@ -4,10 +4,10 @@ ghost use Rattle.std.specs.Prelude.{refl};
 use crate::bit_set::BitSet;
 use crate::words::Word;
 
-// A set of users: user r is a member where bit r is set.
+/// A set of users, numbered below 64: user r is a member where bit r is set.
 pub type UserSet = BitSet<u64>;
 
-// Kept: num_traits states these operations over integers that may be negative, with premises that every clause of a set would carry.
+// The laws of num_traits are of integers that may be negative: each clause would need a premise.
 impl Word for u64 {
     ghost width = { 64 };
 
@@ -21,12 +21,12 @@ impl Word for u64 {
         0
     }
 
-    #[tactic(auto, using(crate::proofs::Laws::bit_within, crate::proofs::Laws::bit_past))]
+    #[tactic(auto, using(crate::specs::SetLaws::bit_within, crate::specs::SetLaws::bit_past))]
     fn bit(at: u8) -> u64 {
         if at < 64 { 1 << at } else { 0 }
     }
 
-    #[tactic(auto, using(crate::proofs::Laws::shifted_low, crate::proofs::Laws::no_bit_past))]
+    #[tactic(auto, using(crate::specs::SetLaws::shifted_low, crate::specs::SetLaws::no_bit_past))]
     fn has(self, at: u8) -> bool {
         at < 64 && (self >> at) & 1 == 1
     }

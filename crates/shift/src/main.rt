@@ -1,17 +1,13 @@
-// A shift in the transfer rooms: two sessions opened by ticket, worked in, closed in the order that their roles allow, and one
-// left open for the night. Prints a row for each event.
+// A shift in the transfer rooms: two sessions opened by ticket, worked in, closed in the order that
+// their roles allow, and one left open for the night. Prints a row for each event.
 #![tactic(auto)]
 
 use families::house::{House, begin};
-use monitor::answer::Answer;
-use monitor::decide::Monitor;
-use monitor::row::Row;
-use monitor::ticket::Ticket;
-use policy::checked::Checked;
-use policy::draft::Draft;
+use monitor::{Answer, Monitor, Row, Ticket};
 use policy::worked::worked_policies;
-use records::event::Event;
-use report::line::RowLine;
+use policy::{Checked, Draft};
+use records::Event;
+use report::RowLine;
 use sets::RoleSet;
 
 // The most rows that the shift can have.
@@ -76,7 +72,8 @@ impl Desk {
         }
     }
 
-    // Closes the scanning session. Where a role of the checking session leans on it, the ticket comes back, and checking ends first.
+    // Closes the scanning session. Where a role of the checking session depends on it, the ticket
+    // comes back, and checking ends first.
     fn close_both(&mut self, scanning: Ticket, checking: Ticket) {
         let closed = self.close(scanning);
         self.close_or_leave(checking);
@@ -85,7 +82,8 @@ impl Desk {
         }
     }
 
-    // Moves to another session: the new ticket is kept, the old one spent. Where the opening is refused the old one is kept.
+    // Moves to another session: the new ticket is kept, the old one spent. Where the opening is
+    // refused the old one is kept.
     fn move_to(&mut self, old: Ticket, session: u8, user: u8) -> Ticket {
         match self.open(session, user) {
             Some(new) => {
@@ -96,7 +94,8 @@ impl Desk {
         }
     }
 
-    // User 0 scans by role 1 in session 0; user 1 checks by role 3, which depends on 1, in session 1.
+    // User 0 scans by role 1 in session 0; user 1 checks by role 3, which depends on role 1, in
+    // session 1.
     fn work(&mut self) {
         self.ask(Event::Assign { user: 0, role: 1 });
         self.ask(Event::Assign { user: 1, role: 3 });

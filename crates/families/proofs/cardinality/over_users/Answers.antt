@@ -1,12 +1,31 @@
-use Rattle.std.proofs.Common.{◌≡◌, ℕ, Bool, true, false, not, rules}
-use Rattle.std.proofs.lemmas.Iterator.{first_from_Range}
-use borrow.Author.Tests.{tests}
-use Rattle.families.specs.Cardinality.{limit_of_users, users_of, within}
-use Rattle.families.proofs.Counted.{first_found}
+use Rattle.std.proofs.Common.{sym, ap, ◌∙◌, arith}
+use Rattle.std.proofs.lemmas.Bool.{and_parts}
+use Rattle.sets.specs.Aliases.{RoleSet}
+use Rattle.sets.specs.FirstLaws.{First, first_some, first_none}
+use Rattle.sets.specs.Sets.{has}
+use Rattle.policy.specs.RowsUnionLaws.{smaller_rest}
+use Rattle.families.specs.Cardinality.{is_over_users}
+use Rattle.families.proofs.Searches.{still_remaining, lowest_remaining, none_remaining}
 use Rattle.families.proofs.cardinality.over_users.Goals as goal
+
+pub loop-role-init : goal.loop-role-init
+loop-role-init c = λ k l h. (and_parts (has c.args.roles.bits k) _ h).0
+
+pub loop-role-smaller : goal.loop-role-smaller
+loop-role-smaller c =
+    let r : First 32 (has c.loop-role.rest.bits) c.in-Some.role = first_some 32 _ _ (sym c.in-Some.ensures.value) in
+    omega (arith, smaller_rest c.loop-role.rest.bits c.in-Some.role r.within r.passes, ap (λ (s : RoleSet). s.bits) c.without-rest.ensures.value)
+
+pub loop-role-preserved : goal.loop-role-preserved
+loop-role-preserved c =
+    still_remaining (is_over_users c.args.tables.now c.args.authorised.now c.args.roles.bits) c.loop-role.rest c.without-rest.result c.in-Some.role
+    (sym c.is_over_users.ensures ∙ c.if-is_over_users.false) c.without-rest.ensures.value c.loop-role.invariant
+
+pub returns-then-is_over_users : goal.returns-then-is_over_users
+returns-then-is_over_users c =
+    lowest_remaining (is_over_users c.args.tables.now c.args.authorised.now c.args.roles.bits) c.loop-role.rest c.in-Some.role (first_some 32 _ _ (sym c.in-Some.ensures.value))
+    (sym c.is_over_users.ensures ∙ c.if-is_over_users.true) c.loop-role.invariant
 
 pub returns : goal.returns
 returns c =
-    let over : ℕ → Bool = λ b. not (within (limit_of_users c.args.tables.now b) (users_of c.args.cells.now b)) in
-    first_found 32 over c.find.result
-    (first_from_Range _ _ _ c.find.result (λ k. over k ≡ true) (λ k. over k ≡ false) c.find.ensures.ran (λ x q k. search (rules, tests)) (λ x q k. search (rules, tests)))
+    none_remaining (is_over_users c.args.tables.now c.args.authorised.now c.args.roles.bits) c.loop-role.rest (first_none 32 (has c.loop-role.rest.bits) (sym c.lowest.ensures.value ∙ c.in_default.is)) c.loop-role.invariant

@@ -1,4 +1,4 @@
-use Rattle.families.proofs.Piled.{house-apart}
+use Rattle.families.specs.HouseLaws.{house-apart}
 use Rattle.families.proofs.house.decide.Goals as goal
 
 pub returns : goal.returns
@@ -7,8 +7,9 @@ returns c =
     record {
       answer = is.answer;
       state = is.state;
-      policy = is.policy;
-      pile = is.pile;
+      same = is.same;
       law = is.law;
-      apart = λ es rs past. house-apart c.args.monitor.now.ledger.policy.draft.tables c.decide.new.self.ledger.state.cells (is.law es rs past).allowed;
+      apart = λ es rs past.
+          house-apart c.args.monitor.now.governed.policy.draft.tables
+          c.decide.new.self.governed.state.cells (is.law es rs past).allowed;
     }

@@ -1,4 +1,4 @@
-use Rattle.families.proofs.Piled.{pile_apart}
+use Rattle.families.specs.HouseLaws.{pile_apart}
 use Rattle.families.proofs.house.static_conflict_reaches_the_pile.Goals as goal
 
 pub returns : goal.returns

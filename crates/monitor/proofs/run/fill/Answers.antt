@@ -1,22 +1,23 @@
 use Rattle.std.proofs.Common.{◌≡◌, ℕ, ◌+◌, ◌-◌, length, set, Ok, Err, sym, refl, ap, ◌∙◌, subst, subst₂, arith}
 use Rattle.std.proofs.lemmas.Bool.{eqb-true, eqb-false}
 use Rattle.std.proofs.lemmas.List.{set-get_or}
-use Rattle.monitor.specs.declared.run.Pause.TheVariants.{NoByteLeft, NoRowLeft}
+use Rattle.monitor.specs.declared.run.Stop.TheVariants.{NoByteLeft, NoRowLeft}
 use Rattle.monitor.specs.declared.run.Outcome.{Outcome}
 use Rattle.monitor.specs.Rows.{row_of, outcome}
 use Rattle.monitor.specs.Scripts.{script_of}
 use Rattle.monitor.specs.History.{reply, step}
-use Rattle.monitor.proofs.Filling.{Filling, unfilled, filled, answered, refilled, no_byte, no_row, no_event}
+use Rattle.monitor.specs.RowLaws.{Filling, unfilled, filled, answered, refilled, no_byte, no_row, no_event}
+use Rattle.monitor.specs.MonitorLaws.{also_same}
 use Rattle.monitor.proofs.run.fill.Goals as goal
 
 pub loop-filled-init : goal.loop-filled-init
 loop-filled-init g c =
     let m = c.args.monitor.now in
     let ms = g.P.Rule.rules m.pile in (
-      subst (λ (n : ℕ). Filling ms m.ledger c.args.rows.now c.args.bytes.now 0 n c.args.bytes.now c.args.rows.now m.ledger.state.cells)
-          (omega arith) (unfilled ms m.ledger c.args.rows.now c.args.bytes.now),
-      refl,
-      refl,
+      subst (λ (n : ℕ). Filling ms m.governed c.args.rows.now c.args.bytes.now 0 n c.args.bytes.now
+          c.args.rows.now m.governed.state.cells)
+          (omega arith) (unfilled ms m.governed c.args.rows.now c.args.bytes.now),
+      record { policy = refl; pile = refl },
     )
 
 pub overflow_sub-taken : goal.overflow_sub-taken
@@ -29,31 +30,36 @@ pub returns-then-is_empty : goal.returns-then-is_empty
 returns-then-is_empty g c =
     let m = c.args.monitor.now in
     let f = c.loop-filled.invariant.0 in
-    let is = filled (g.P.Rule.rules m.pile) m.ledger c.args.rows.now c.args.bytes.now (Ok NoByteLeft) f
-    (no_byte f.left c.loop-filled.rest.now _ (eqb-true (length c.loop-filled.rest.now) 0 (sym c.if-is_empty.ensures))) in
+    let is =
+    filled (g.P.Rule.rules m.pile) m.governed c.args.rows.now c.args.bytes.now (Ok NoByteLeft) f
+    (no_byte f.left c.loop-filled.rest.now _
+    (eqb-true (length c.loop-filled.rest.now) 0 (sym c.if-is_empty.ensures))) in
     record {
-      answer = answered (g.P.Rule.rules m.pile) m.ledger c.args.rows.now c.args.bytes.now is;
+      answer = answered (g.P.Rule.rules m.pile) m.governed c.args.rows.now c.args.bytes.now is;
       rows = set-get_or c.loop-filled.rows c.loop-filled.filled _ ∙ is.written;
       state = is.reached;
-      policy = c.loop-filled.invariant.1;
-      pile = c.loop-filled.invariant.2;
+      same = c.loop-filled.invariant.1;
     }
 
 pub returns-in-Err : goal.returns-in-Err
 returns-in-Err g c =
     let m = c.args.monitor.now in
     let f = c.loop-filled.invariant.0 in
-    let stays = c.in-Err.ensures.step in
-    let is = filled (g.P.Rule.rules m.pile) m.ledger c.args.rows.now c.args.bytes.now (Err c.in-Err.fault) f
+    let stays = c.in-Err.ensures.filled in
+    let is =
+    filled (g.P.Rule.rules m.pile) m.governed c.args.rows.now c.args.bytes.now
+    (Err c.in-Err.fault) f
     (no_event f.left c.loop-filled.rest.now _ c.in-Err.fault
     (omega (arith, f.room, c.loop-filled-test.true))
-    (omega (arith, eqb-false (length c.loop-filled.rest.now) 0 (sym c.if-is_empty.ensures))) stays.0) in
+    (omega (arith, eqb-false (length c.loop-filled.rest.now) 0 (sym c.if-is_empty.ensures)))
+    stays.0) in
     record {
-      answer = answered (g.P.Rule.rules m.pile) m.ledger c.args.rows.now c.args.bytes.now is;
-      rows = ap (set c.loop-filled.rows c.loop-filled.filled) stays.1.0 ∙ set-get_or c.loop-filled.rows c.loop-filled.filled _ ∙ is.written;
+      answer = answered (g.P.Rule.rules m.pile) m.governed c.args.rows.now c.args.bytes.now is;
+      rows =
+          ap (set c.loop-filled.rows c.loop-filled.filled) stays.1.0
+          ∙ set-get_or c.loop-filled.rows c.loop-filled.filled _ ∙ is.written;
       state = stays.1.1 ∙ is.reached;
-      policy = c.in-Err.ensures.policy ∙ c.loop-filled.invariant.1;
-      pile = c.in-Err.ensures.pile ∙ c.loop-filled.invariant.2;
+      same = also_same c.loop-filled.invariant.1 c.in-Err.ensures.same;
     }
 
 pub loop-filled-preserved : goal.loop-filled-preserved
@@ -61,51 +67,83 @@ loop-filled-preserved g c =
     let m = c.args.monitor.now in
     let f = c.loop-filled.invariant.0 in
     let ms = g.P.Rule.rules m.pile in
-    let now = c.loop-filled.monitor.ledger.state.cells in
-    let took = c.in-Ok.ensures.step in
+    let now = c.loop-filled.monitor.governed.state.cells in
+    let took = c.in-Ok.ensures.filled in
     let e = took.event in
-    let same-policy = c.loop-filled.invariant.1 in
-    let same-pile = c.loop-filled.invariant.2 in
-    let more = refilled ms m.ledger c.args.rows.now c.args.bytes.now f (omega (arith, c.loop-filled-test.true, c.loop-filled.auto.rows)) e c.in-Ok.tail.now took.taken took.shorter
-    (reply ms m.ledger.policy.draft.tables now e) c.step.new.monitor.ledger.state.cells c.step.new.row
+    let same = c.loop-filled.invariant.1 in
+    let more =
+    refilled ms m.governed c.args.rows.now c.args.bytes.now f
+    (omega (arith, c.loop-filled-test.true, c.loop-filled.auto.rows)) e c.in-Ok.tail.now
+    took.taken took.shorter
+    (reply ms m.governed.policy.draft.tables now e) c.fill_row.new.monitor.governed.state.cells
+    c.fill_row.new.row
     refl
-    (subst₂ (λ x p. c.step.new.monitor.ledger.state.cells ≡ step (g.P.Rule.rules x) p.draft.tables now e) same-pile same-policy took.reached)
-    (subst₂ (λ x p. c.step.new.row ≡ row_of e (reply (g.P.Rule.rules x) p.draft.tables now e)) same-pile same-policy took.written) in (
-      subst (λ (n : ℕ). Filling ms m.ledger c.args.rows.now c.args.bytes.now (c.loop-filled.filled + 1) n c.in-Ok.tail.now (set c.loop-filled.rows c.loop-filled.filled c.step.new.row) c.step.new.monitor.ledger.state.cells)
+    (subst₂ (λ x p. c.fill_row.new.monitor.governed.state.cells
+    ≡ step (g.P.Rule.rules x) p.draft.tables now e) same.pile same.policy took.reached)
+    (subst₂ (λ x p. c.fill_row.new.row ≡ row_of e (reply (g.P.Rule.rules x) p.draft.tables now e))
+    same.pile same.policy took.written) in (
+      subst (λ (n : ℕ). Filling ms m.governed c.args.rows.now c.args.bytes.now
+          (c.loop-filled.filled + 1) n c.in-Ok.tail.now
+          (set c.loop-filled.rows c.loop-filled.filled c.fill_row.new.row)
+          c.fill_row.new.monitor.governed.state.cells)
           (omega (arith, f.inside, took.shorter)) more,
-      c.in-Ok.ensures.policy ∙ same-policy,
-      c.in-Ok.ensures.pile ∙ same-pile,
+      also_same same c.in-Ok.ensures.same,
     )
 
 pub returns-then-is_empty-2 : goal.returns-then-is_empty-2
 returns-then-is_empty-2 g c =
     let m = c.args.monitor.now in
     let f = c.loop-filled.invariant.0 in
-    let is = filled (g.P.Rule.rules m.pile) m.ledger c.args.rows.now c.args.bytes.now (Ok NoByteLeft) f
-    (no_byte f.left c.loop-filled.rest.now _ (eqb-true (length c.loop-filled.rest.now) 0 (sym c.if-is_empty-2.ensures))) in
-    let all : c.loop-filled.filled ≡ length c.loop-filled.rows = omega (arith, c.loop-filled-test.false, c.loop-filled.auto.rows, c.loop-filled.auto.filled-end) in
+    let is =
+    filled (g.P.Rule.rules m.pile) m.governed c.args.rows.now c.args.bytes.now (Ok NoByteLeft) f
+    (no_byte f.left c.loop-filled.rest.now _
+    (eqb-true (length c.loop-filled.rest.now) 0 (sym c.if-is_empty-2.ensures))) in
+    let all : c.loop-filled.filled ≡ length c.loop-filled.rows =
+    omega (
+      arith,
+      c.loop-filled-test.false,
+      c.loop-filled.auto.rows,
+      c.loop-filled.auto.filled-end,
+    ) in
     record {
-      answer = subst (λ (n : ℕ). ◌≡◌ {A = Outcome} (record { rows = n; bytes = length c.args.bytes.now - length c.loop-filled.rest.now; end = Ok NoByteLeft }) (outcome (script_of c.args.bytes.now c.args.rows.now))) all
-          (answered (g.P.Rule.rules m.pile) m.ledger c.args.rows.now c.args.bytes.now is);
+      answer =
+          subst (λ (n : ℕ). ◌≡◌ {A = Outcome}
+          (record {
+            rows = n;
+            bytes = length c.args.bytes.now - length c.loop-filled.rest.now;
+            end = Ok NoByteLeft;
+          }) (outcome (script_of c.args.bytes.now c.args.rows.now))) all
+          (answered (g.P.Rule.rules m.pile) m.governed c.args.rows.now c.args.bytes.now is);
       rows = is.written;
       state = is.reached;
-      policy = c.loop-filled.invariant.1;
-      pile = c.loop-filled.invariant.2;
+      same = c.loop-filled.invariant.1;
     }
 
 pub returns-else-is_empty-2 : goal.returns-else-is_empty-2
 returns-else-is_empty-2 g c =
     let m = c.args.monitor.now in
     let f = c.loop-filled.invariant.0 in
-    let is = filled (g.P.Rule.rules m.pile) m.ledger c.args.rows.now c.args.bytes.now (Ok NoRowLeft) f
+    let is =
+    filled (g.P.Rule.rules m.pile) m.governed c.args.rows.now c.args.bytes.now (Ok NoRowLeft) f
     (no_row f.left c.loop-filled.rest.now _ (omega (arith, f.room, c.loop-filled-test.false))
     (omega (arith, eqb-false (length c.loop-filled.rest.now) 0 (sym c.if-is_empty-2.ensures)))) in
-    let all : c.loop-filled.filled ≡ length c.loop-filled.rows = omega (arith, c.loop-filled-test.false, c.loop-filled.auto.rows, c.loop-filled.auto.filled-end) in
+    let all : c.loop-filled.filled ≡ length c.loop-filled.rows =
+    omega (
+      arith,
+      c.loop-filled-test.false,
+      c.loop-filled.auto.rows,
+      c.loop-filled.auto.filled-end,
+    ) in
     record {
-      answer = subst (λ (n : ℕ). ◌≡◌ {A = Outcome} (record { rows = n; bytes = length c.args.bytes.now - length c.loop-filled.rest.now; end = Ok NoRowLeft }) (outcome (script_of c.args.bytes.now c.args.rows.now))) all
-          (answered (g.P.Rule.rules m.pile) m.ledger c.args.rows.now c.args.bytes.now is);
+      answer =
+          subst (λ (n : ℕ). ◌≡◌ {A = Outcome}
+          (record {
+            rows = n;
+            bytes = length c.args.bytes.now - length c.loop-filled.rest.now;
+            end = Ok NoRowLeft;
+          }) (outcome (script_of c.args.bytes.now c.args.rows.now))) all
+          (answered (g.P.Rule.rules m.pile) m.governed c.args.rows.now c.args.bytes.now is);
       rows = is.written;
       state = is.reached;
-      policy = c.loop-filled.invariant.1;
-      pile = c.loop-filled.invariant.2;
+      same = c.loop-filled.invariant.1;
     }

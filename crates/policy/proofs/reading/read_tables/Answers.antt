@@ -4,19 +4,19 @@ use Rattle.policy.specs.declared.tables.Tables.{Tables}
 use Rattle.policy.specs.WellFormed.{WellFormed}
 use Rattle.policy.specs.Reading.{read_from, reading}
 use Rattle.policy.specs.Updates.{bare}
-use Rattle.policy.proofs.Keeping.{bare_well_formed, applied_well_formed}
-use Rattle.policy.proofs.Turns.{opened, faulty, ended, refused, turned}
+use Rattle.policy.specs.WellFormedLaws.{bare_well_formed, after_entry_well_formed}
+use Rattle.policy.specs.ReadingLaws.{opened, faulty, ended, refused, turned}
 use Rattle.policy.proofs.reading.read_tables.Goals as goal
 
 pub loop-entry-init : goal.loop-entry-init
 loop-entry-init c =
     let s = c.args.bytes.now in (
-      subst WellFormed (sym c.only-tables.ensures) bare_well_formed,
+      subst WellFormed (sym c.bare_tables-tables.ensures) bare_well_formed,
       omega arith,
       (
         length s + 1,
         omega arith,
-        ap (λ (t : Tables). read_from (length s + 1) t s (length s - length s)) c.only-tables.ensures
+        ap (λ (t : Tables). read_from (length s + 1) t s (length s - length s)) c.bare_tables-tables.ensures
             ∙ ap (λ (n : ℕ). read_from (length s + 1) bare s n) (omega arith),
       ),
     )
@@ -28,7 +28,7 @@ loop-entry-preserved c =
     let t = c.in_ok-entry.ensures in
     let a = c.in_ok-apply.ensures in
     let left = opened v.0 c.loop-entry.tables c.loop-entry.rest.now at (reading c.args.bytes.now) v.1 v.2 in (
-      applied_well_formed c.loop-entry.tables c.apply.new.tables c.in_ok-entry.entry at c.loop-entry.invariant.0 a,
+      after_entry_well_formed c.loop-entry.tables c.apply.new.tables c.in_ok-entry.entry at c.loop-entry.invariant.0 a,
       omega (arith, t.shorter, c.loop-entry.invariant.1),
       turned _ _ _ _ c.in_ok-entry.entry c.in_ok-entry.tail.now left t.value _ (omega (arith, t.shorter, c.loop-entry.invariant.1)) c.apply.new.tables a c.if-is_end.ensures t.shorter,
     )
@@ -42,7 +42,7 @@ returns-then-is_end c =
     let left = opened v.0 c.loop-entry.tables c.loop-entry.rest.now at (reading c.args.bytes.now) v.1 v.2 in
     record {
       answer = ended _ _ _ _ c.in_ok-entry.entry c.in_ok-entry.tail.now left t.value _ (omega (arith, t.shorter, c.loop-entry.invariant.1)) c.apply.new.tables a c.if-is_end.ensures;
-      tables = applied_well_formed c.loop-entry.tables c.apply.new.tables c.in_ok-entry.entry at c.loop-entry.invariant.0 a;
+      tables = after_entry_well_formed c.loop-entry.tables c.apply.new.tables c.in_ok-entry.entry at c.loop-entry.invariant.0 a;
       within = omega (arith, c.in_ok-entry.ensures.shorter, c.loop-entry.invariant.1);
     }
 

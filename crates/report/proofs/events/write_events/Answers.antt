@@ -1,60 +1,46 @@
-use Rattle.std.proofs.Common.{◌≡◌, ◌++◌, length, drop, refl, ap, ◌∙◌, subst₂, arith}
-use Rattle.std.specs.Prelude.{codes, string_bytes}
-use Rattle.report.specs.declared.line.EndLine.{EndLine}
-use Rattle.report.specs.Texts.{end_text}
-use Rattle.monitor.specs.History.{replies, after}
-use Rattle.monitor.specs.Rows.{rows_of}
-use Rattle.monitor.specs.Scripts.{script_of}
-use Rattle.report.proofs.Rolling.{wants, wants_none, shrinks, unrolled, rolls_on, rolls_out}
+use Rattle.std.proofs.Common.{length, string_bytes, refl, arith}
+use Rattle.monitor.specs.Governed.{tables_of, cells_of}
+use Rattle.monitor.specs.MonitorLaws.{also_same}
+use Rattle.monitor.specs.Monitors.{state_of, pile_of}
+use Rattle.report.proofs.EventLines.{no_row_left, some_other_end, rest_shorter, none_so_far, runs_go_on, runs_end}
 use Rattle.report.proofs.events.write_events.Goals as goal
 
 pub loop-count-init : goal.loop-count-init
 loop-count-init g c =
-    let m = c.args.monitor.now in (unrolled (g.P.Rule.rules m.pile) m.ledger.policy.draft.tables m.ledger.state.cells c.args.bytes.now _, refl, refl, refl)
+    let m = c.args.monitor.now in record {
+      so_far = none_so_far (g.P.Rule.rules (pile_of m)) (tables_of (state_of m))
+          (cells_of (state_of m)) c.args.bytes.now _;
+      same = record { policy = refl; pile = refl };
+      room = refl;
+    }
 
 pub loop-count-smaller : goal.loop-count-smaller
 loop-count-smaller g c =
-    shrinks (length c.loop-count.rows) c.loop-count.rest.now c.run-outcome.result c.run-outcome.ensures.answer (omega (arith, c.loop-count.invariant.3))
-    (wants c.run-outcome.result.end c.ne.ensures c.if-ne.false)
+    rest_shorter (length c.loop-count.rows) c.loop-count.rest.now c.run-outcome.result
+    c.run-outcome.ensures.answer (omega (arith, c.loop-count.invariant.room))
+    (no_row_left c.run-outcome.result.end c.ne.ensures c.if-ne.false)
 
 pub loop-count-preserved : goal.loop-count-preserved
 loop-count-preserved g c =
-    let m = c.args.monitor.now in
-    let ms = g.P.Rule.rules m.pile in
-    let t = m.ledger.policy.draft.tables in
-    let before = c.loop-count.monitor.ledger.state.cells in
-    let es = (script_of c.loop-count.rest.now c.loop-count.rows).events in
-    let is = c.run-outcome.ensures in
-    let same-policy = c.loop-count.invariant.1 in
-    let same-pile = c.loop-count.invariant.2 in (
-      rolls_on ms t m.ledger.state.cells c.args.bytes.now _ (length c.loop-count.rows) c.loop-count.invariant.0
-          c.run-outcome.result is.answer (drop (length es) c.loop-count.rows) c.run-outcome.new.rows
-          (subst₂ (λ x p. c.run-outcome.new.rows ≡ rows_of es (replies (g.P.Rule.rules x) p.draft.tables before es) ++ drop (length es) c.loop-count.rows) same-pile same-policy is.rows)
-          _ c.in_ok-write_rows.ensures
-          c.run-outcome.new.monitor.ledger.state.cells
-          (subst₂ (λ x p. c.run-outcome.new.monitor.ledger.state.cells ≡ after (g.P.Rule.rules x) p.draft.tables before es) same-pile same-policy is.state)
-          (wants c.run-outcome.result.end c.ne.ensures c.if-ne.false),
-      is.policy ∙ same-policy,
-      is.pile ∙ same-pile,
-      c.run-outcome.auto.rows ∙ c.loop-count.invariant.3,
-    )
+    let is = c.run-outcome.ensures in record {
+      so_far = runs_go_on g.P.Rule.rules c.args.monitor.now c.loop-count.monitor
+          c.run-outcome.new.monitor c.loop-count.invariant.same
+          c.args.bytes.now _ c.loop-count.rows c.run-outcome.new.rows c.loop-count.invariant.so_far
+          c.run-outcome.result is.answer is.rows is.state
+          (string_bytes c.write_rows.new.text) c.in_ok-write_rows.ensures
+          (no_row_left c.run-outcome.result.end c.ne.ensures c.if-ne.false);
+      same = also_same c.loop-count.invariant.same is.same;
+      room = omega (arith, c.run-outcome.auto.rows, c.loop-count.invariant.room);
+    }
 
 pub returns-then-ne : goal.returns-then-ne
 returns-then-ne g c =
-    let m = c.args.monitor.now in
-    let ms = g.P.Rule.rules m.pile in
-    let t = m.ledger.policy.draft.tables in
-    let before = c.loop-count.monitor.ledger.state.cells in
-    let es = (script_of c.loop-count.rest.now c.loop-count.rows).events in
     let is = c.run-outcome.ensures in
-    let same-policy = c.loop-count.invariant.1 in
-    let same-pile = c.loop-count.invariant.2 in
-    rolls_out ms t m.ledger.state.cells c.args.bytes.now _ (length c.loop-count.rows) c.loop-count.invariant.0
-    c.run-outcome.result is.answer (drop (length es) c.loop-count.rows) c.run-outcome.new.rows
-    (subst₂ (λ x p. c.run-outcome.new.rows ≡ rows_of es (replies (g.P.Rule.rules x) p.draft.tables before es) ++ drop (length es) c.loop-count.rows) same-pile same-policy is.rows)
-    _ c.in_ok-write_rows.ensures
-    c.run-outcome.new.monitor.ledger.state.cells
-    (subst₂ (λ x p. c.run-outcome.new.monitor.ledger.state.cells ≡ after (g.P.Rule.rules x) p.draft.tables before es) same-pile same-policy is.state)
-    (wants_none c.run-outcome.result.end c.ne.ensures c.if-ne.true)
-    _ refl _ (c.in_ok-writeln.ensures.bytes
-    ∙ ap (λ (l : EndLine). string_bytes c.write_rows.new.text ++ (end_text l.rows l.bytes l.number ++ codes "\n")) c.from-line.ensures)
+    runs_end g.P.Rule.rules c.args.monitor.now c.loop-count.monitor c.run-outcome.new.monitor
+    c.loop-count.invariant.same
+    c.args.bytes.now _ c.loop-count.rows c.run-outcome.new.rows c.loop-count.invariant.so_far
+    c.run-outcome.result is.answer is.rows is.state
+    (string_bytes c.write_rows.new.text) c.in_ok-write_rows.ensures
+    (some_other_end c.run-outcome.result.end c.ne.ensures c.if-ne.true)
+    _ refl c.from-line.result c.from-line.ensures
+    (string_bytes c.writeln.new.self) c.in_ok-writeln.ensures.bytes

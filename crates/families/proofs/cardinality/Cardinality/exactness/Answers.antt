@@ -1,4 +1,4 @@
-use Rattle.families.specs.Limits.{cardinality_exact}
+use Rattle.families.specs.CardinalityLaws.{cardinality_exact}
 use Rattle.families.proofs.cardinality.Cardinality.exactness.Goals as goal
 
 pub returns : goal.returns

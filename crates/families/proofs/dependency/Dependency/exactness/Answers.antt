@@ -1,4 +1,4 @@
-use Rattle.families.specs.Leaning.{dependency_exact}
+use Rattle.families.specs.DependencyLaws.{dependency_exact}
 use Rattle.families.proofs.dependency.Dependency.exactness.Goals as goal
 
 pub returns : goal.returns

@@ -1,4 +1,4 @@
-use Rattle.families.specs.Apart.{separation_exact}
+use Rattle.families.specs.SeparationLaws.{separation_exact}
 use Rattle.families.proofs.separation.Separation.exactness.Goals as goal
 
 pub returns : goal.returns

@@ -1,7 +1,7 @@
 use Rattle.std.proofs.Common.{◌≡◌, ◌&&◌, ◌∙◌, rules}
 use Rattle.std.specs.Option.{option_map}
 use Rattle.sets.specs.Sets.{has}
-use Rattle.sets.proofs.First.{told-first}
+use Rattle.sets.specs.FirstLaws.{told-first}
 use Rattle.policy.specs.declared.verdict.Failure.TheVariants.{BothConflicts}
 use Rattle.policy.specs.Entries.{ssd_pair, dsd_pair}
 use Rattle.policy.proofs.questions.Questions.both_conflicts_of.Goals as goal

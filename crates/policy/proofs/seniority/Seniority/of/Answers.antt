@@ -2,9 +2,9 @@ use Rattle.std.proofs.Common.{◌≡◌, ℕ, get_or, sym, ap, ◌∙◌, subst,
 use Rattle.std.proofs.lemmas.Bool.{eqb-true}
 use Rattle.sets.specs.Aliases.{RoleSet}
 use Rattle.policy.specs.Entries.{no_roles}
-use Rattle.policy.specs.Seniority.{gathered, closed_below, closure, TellsSeniority}
-use Rattle.policy.proofs.Closing.{closure_tells}
-use Rattle.policy.proofs.Loops.{close_more, close_none}
+use Rattle.policy.specs.Seniority.{rows_union, closed_below, closure, TellsSeniority}
+use Rattle.policy.specs.SeniorityLaws.{closure_tells}
+use Rattle.policy.specs.RowsUnionLaws.{close_more, close_none}
 use Rattle.policy.proofs.seniority.Seniority.of.Goals as goal
 use Rattle.policy.proofs.seniority.Seniority.of.Goals.{then-not-is_empty, else-not-is_empty}
 
@@ -18,7 +18,7 @@ loop-role-preserved c =
     let row : c.of-juniors.result.bits ≡ (get_or juniors c.loop-role.role no_roles).bits = ap (λ (s : RoleSet). s.bits) c.of-juniors.ensures in
     elim c.if-not-is_empty.branch [
       | then-not-is_empty w ↦ w.rows-is ∙ close_more juniors c.loop-role.rows w.spread-rows.result c.loop-role.role w.gather-below.result.bits c.loop-role.invariant
-          (ap (λ (s : RoleSet). s.bits) w.gather-below.ensures ∙ ap (λ (s : RoleSet). gathered c.loop-role.rows s 32) c.of-juniors.ensures) w.spread-rows.ensures
+          (ap (λ (s : RoleSet). s.bits) w.gather-below.ensures ∙ ap (λ (s : RoleSet). rows_union c.loop-role.rows s 32) c.of-juniors.ensures) w.spread-rows.ensures
       | else-not-is_empty w ↦ w.rows-is ∙ close_none juniors c.loop-role.rows c.loop-role.role c.loop-role.invariant
           (sym row ∙ eqb-true c.of-juniors.result.bits 0 (sym c.is_empty.ensures.value ∙ w.if-not-is_empty.false))
     ]

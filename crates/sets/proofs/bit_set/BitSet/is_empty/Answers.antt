@@ -1,6 +1,6 @@
 use Rattle.std.proofs.Common.{◌∙◌}
 use Rattle.std.proofs.lemmas.Bool.{eq-eqb}
-use Rattle.sets.proofs.Laws.{none_empty}
+use Rattle.sets.specs.SetLaws.{none_empty}
 use Rattle.sets.proofs.bit_set.BitSet.is_empty.Goals as goal
 
 pub returns-clause-isnt : goal.returns-clause-isnt

@@ -1,8 +1,8 @@
 use Rattle.std.proofs.Common.{◌<◌, sym, subst, arith}
 use Rattle.std.proofs.lemmas.Bool.{eqb-true, eqb-false}
 use Rattle.sets.specs.Sets.{has}
-use Rattle.sets.proofs.First.{First, first_is}
-use Rattle.sets.proofs.Laws.{empty_none, least, lowest_none}
+use Rattle.sets.specs.FirstLaws.{First, first_is}
+use Rattle.sets.specs.SetLaws.{empty_none, least, lowest_none}
 use Rattle.sets.proofs.bit_set.BitSet.lowest.Goals as goal
 
 pub returns-then-is_empty : goal.returns-then-is_empty

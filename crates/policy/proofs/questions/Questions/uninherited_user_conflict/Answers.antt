@@ -1,0 +1,17 @@
+use Rattle.std.proofs.Common.{◌≡◌, not, ◌&&◌, ◌∙◌, rules}
+use Rattle.std.specs.Option.{option_map}
+use Rattle.sets.specs.Sets.{has}
+use Rattle.sets.specs.FirstLaws.{told-first}
+use Rattle.policy.specs.declared.verdict.Failure.TheVariants.{UninheritedUserConflict}
+use Rattle.policy.specs.Entries.{users_pair}
+use Rattle.policy.proofs.questions.Questions.uninherited_user_conflict.Goals as goal
+
+pub returns : goal.returns
+returns c =
+    let t = c.args.self.now.tables.now in
+    let a = c.args.senior in
+    let b = c.args.junior in
+    let u = c.args.first in
+    let named : c.map.result ≡ option_map (UninheritedUserConflict a b u) c.lowest.result = search rules in
+    named ∙ told-first 64 (λ v. users_pair t b u v && not (users_pair t a u v)) (has c.difference-lost.result.bits) (UninheritedUserConflict a b u) c.lowest.result
+    c.lowest.ensures.value (λ v. search rules)

@@ -1,3 +1,0 @@
-pub mod Counts
-pub mod First
-pub mod Laws
