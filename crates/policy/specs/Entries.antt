@@ -3,7 +3,8 @@
 --   inherits     the first role inherits the second directly
 --   ssd_pair     two roles are in static conflict;  dsd_pair: in dynamic conflict
 --   users_pair   two users conflict for a role
-use Rattle.std.specs.Prelude.{ℕ, Bool, List, [], slice_index_or}
+--   requires_role   by a condition the first role requires the second;  depends: it depends on it
+use Rattle.std.specs.Prelude.{ℕ, zero, suc, Bool, false, List, [], slice_index_or}
 use Rattle.sets.specs.Aliases.{RoleSet, UserSet}
 use Rattle.sets.specs.Sets.{has}
 use Rattle.policy.specs.declared.tables.Tables.{Tables}
@@ -31,3 +32,11 @@ dsd_pair t a b = holds t.dsd.partners a b
 
 abbrev pub users_pair : Tables → ℕ → ℕ → ℕ → Bool
 users_pair t r u v = holds_user t.activation_conflicts.partners r u v
+
+-- the conditions are numbered from 1
+abbrev pub requires_role : Tables → ℕ → ℕ → ℕ → Bool
+requires_role t zero a b = false
+requires_role t (suc k) a b = holds (slice_index_or t.requirements.sets k []) a b
+
+abbrev pub depends : Tables → ℕ → ℕ → Bool
+depends t a b = holds t.dependencies.needs a b

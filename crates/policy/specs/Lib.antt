@@ -3,6 +3,7 @@ pub mod Limits
 pub mod Updates
 pub mod WellFormed
 pub mod Reading
+pub mod Recorded
 pub mod Seniority
 pub mod Verdicts
 pub mod Questions
@@ -14,6 +15,9 @@ pub mod RowLaws
 pub mod PairLaws
 pub mod WellFormedLaws
 pub mod ReadingLaws
+pub mod SaysLaws
+pub mod TablesSayLaws
+pub mod RecordedLaws
 pub mod SeniorityLaws
 pub mod RowsUnionLaws
 pub mod SearchLaws

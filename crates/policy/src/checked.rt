@@ -20,7 +20,7 @@ pub struct Checked {
 }
 
 impl Checked {
-    ghost use Rattle.std.specs.Prelude.{◌≡◌, if◌then◌else◌, nat_eq};
+    ghost use Rattle.std.specs.Prelude.{◌≡◌, if◌then◌else◌, nat_eq, OnErr};
     ghost use Rattle.policy.specs.Approved.{drafted_tables, tables_of, policy_of};
 
     /// The bare checked policy: one user, role and session, and nothing else.
@@ -52,6 +52,7 @@ impl Checked {
             ≡ (if nat_eq (number_of result) 0
             then drafted_tables draft.now
             else tables_of (policy_of self.old)) }
+        ensures refused { OnErr result (self.new ≡ self.old) }
     {
         // The hierarchy is closed once: for the questions, and for the policy that passes them.
         let seniority = Seniority::of(draft);

@@ -1,5 +1,6 @@
 // A policy as it was read: well formed, and not yet put to the questions.
 ghost use Rattle.policy.specs.Reading.{reading, answer_of, draft_of};
+ghost use Rattle.policy.specs.Recorded.{ReadingLaw};
 ghost use Rattle.policy.specs.Updates.{bare};
 ghost use Rattle.policy.specs.WellFormed.{WellFormed};
 
@@ -38,6 +39,7 @@ impl Draft {
         ensures answer { result ≡ answer_of (reading bytes.now) }
         ensures draft { drafted_tables self.new ≡ draft_of (reading bytes.now) }
         ensures within { IfOk result (λ n. n ≤ length bytes.now) }
+        ensures law { ReadingLaw bytes.now result (drafted_tables self.new) }
     {
         *self = Draft::bare();
         let (tables, count) = read_tables(bytes)?;

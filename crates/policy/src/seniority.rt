@@ -35,14 +35,16 @@ impl Seniority {
         Seniority { rows }
     }
 
-    /// Whether the first role is senior to the second, which every role is to itself.
+    /// Whether the table has the second role in the row of the first: by a table of
+    /// [`Seniority::of`], whether the first role is senior to the second.
     pub fn is_senior(&self, senior: u8, junior: u8) -> bool
         ensures { result ≡ holds self.now.rows senior junior }
     {
         at_or(&self.rows, senior, RoleSet::empty()).contains(junior)
     }
 
-    /// The roles that some role of the set is senior to.
+    /// The roles in the rows of the set's roles: by a table of [`Seniority::of`], those that some
+    /// role of the set is senior to.
     pub fn below(&self, roles: RoleSet) -> RoleSet
         ensures { result ≡ record { bits = rows_union self.now.rows roles 32 } }
     {
