@@ -3,6 +3,16 @@
 // on one monitor. Prints the policy's line and the end of the last run.
 #![tactic(auto)]
 
+ghost use Rattle.std.specs.Prelude.{◌≡◌, true};
+ghost use Rattle.policy.specs.Approved.{tables_of, policy_of};
+ghost use Rattle.policy.specs.Reading.{reading};
+ghost use Rattle.monitor.specs.Governed.{cells_of, state_after_all};
+ghost use Rattle.monitor.specs.Monitors.{state_of, SamePolicy};
+ghost use Rattle.monitor.specs.Scripts.{script_of};
+ghost use Rattle.families.specs.House.{house_rules};
+ghost use Rattle.report.specs.Judging.{judgement_of, is_refused};
+ghost use Rattle.benchmark.specs.Repeats.{held_over, times_over, rows_over, outcome_over};
+
 use anyhow::{bail, ensure};
 use families::house::{House, house};
 use monitor::run::run;
@@ -15,14 +25,27 @@ use std::{env, fs};
 const ROWS: usize = 32_768;
 
 // Reads and checks a policy many times over, into one holder.
-fn check_over(held: &mut Checked, bytes: &[u8], times: u32) {
+fn check_over(held: &mut Checked, bytes: &[u8], times: u32)
+    ensures policy { tables_of (policy_of held.new)
+        ≡ held_over times (reading bytes.now) (tables_of (policy_of held.old)) }
+    ensures refused { is_refused (judgement_of (reading bytes.now)) ≡ true
+        → held.new ≡ held.old }
+{
     for _ in 0..times {
         let _ = read_and_check(held, bytes);
     }
 }
 
 // Decides events many times over, on one monitor and into the same rows.
-fn run_over(monitor: &mut Monitor<House>, events: &[u8], rows: &mut [Row], times: u32) -> Outcome {
+fn run_over(monitor: &mut Monitor<House>, events: &[u8], rows: &mut [Row], times: u32) -> Outcome
+    ensures answer { result ≡ outcome_over times (script_of events.now rows.old) }
+    ensures rows { rows.new ≡ rows_over times house_rules (state_of monitor.old)
+        (script_of events.now rows.old).events rows.old }
+    ensures state { cells_of (state_of monitor.new)
+        ≡ state_after_all house_rules (state_of monitor.old)
+        (times_over times (script_of events.now rows.old).events) }
+    ensures same { SamePolicy monitor.old monitor.new }
+{
     let mut last = Outcome {
         rows: 0,
         bytes: 0,

@@ -1,29 +1,38 @@
-// Prints the roll of each input that an argument names, under that name. Inputs named `own-` are
-// decided by an own rule above the house pile.
+// Prints the roll of each input that an argument names, under that name. Inputs named `own-` or
+// `one-` are decided by an own rule above the house pile.
 #![tactic(auto)]
 
-use families::house::{House, house};
-use monitor::{Own, Pair};
-use own::OncePerUser;
-use report::{roll, roll_by};
+ghost use Rattle.std.specs.Prelude.{◌≡◌, IfOk, nat_eq, string_bytes};
+ghost use Rattle.std.specs.List.{starts_with};
+ghost use Rattle.report.specs.Roll.{roll_text};
+ghost use Rattle.report.specs.RollLaw.{ApartRollLaw};
+ghost use Rattle.cases.specs.Piles.{rules_for};
+
+use own::{OncePerUser, OneOpenSession};
+use report::{roll, roll_with_own_above};
 use std::alloc::Global;
 use std::io::{BufWriter, Write};
 use std::{env, fmt, fs};
 
-// Role 1 is never active in two sessions of one user, and then the house pile.
-fn own_pile() -> Pair<Own<OncePerUser>, House> {
-    Pair {
-        upper: Own {
-            rule: OncePerUser { role: 1 },
-        },
-        lower: house(),
-    }
+// Whether the name starts so.
+fn has_prefix(name: &str, prefix: &str) -> bool
+    ensures { result ≡ starts_with nat_eq name.now prefix.now }
+{
+    name.starts_with(prefix)
 }
 
 // The roll of an input, by the pile that its name asks for.
-fn roll_of(heap: Global, name: &str, bytes: &[u8]) -> Result<String, fmt::Error> {
-    if name.starts_with("own-") {
-        roll_by(heap, bytes, own_pile())
+fn roll_of(heap: Global, name: &str, bytes: &[u8]) -> Result<String, fmt::Error>
+    ensures text { IfOk result (λ t. string_bytes t ≡ roll_text (rules_for name.now) bytes.now) }
+    ensures law { IfOk result (λ t.
+        ApartRollLaw (rules_for name.now) bytes.now (string_bytes t)) }
+{
+    if has_prefix(name, "own-") {
+        // role 1 is never active in two sessions of one user
+        roll_with_own_above(heap, bytes, OncePerUser { role: 1 })
+    } else if has_prefix(name, "one-") {
+        // at most one session is open
+        roll_with_own_above(heap, bytes, OneOpenSession {})
     } else {
         roll(heap, bytes)
     }

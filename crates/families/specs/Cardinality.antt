@@ -92,4 +92,4 @@ violation_subject (ActiveOfUser u) = u
 violation_subject (SessionsOfRole r) = r
 
 abbrev pub cardinality : Meaning
-cardinality = family WithinLimits (by_change violation_of) violation_number violation_subject 41
+cardinality = family WithinLimits (by_change violation_of) violation_number violation_subject

@@ -25,12 +25,13 @@ use Rattle.monitor.specs.Changes.{change_of, applied, gained}
 use Rattle.monitor.specs.CountLaws.{using_change}
 use Rattle.monitor.specs.Meaning.{Law}
 use Rattle.monitor.specs.NewStateLaws.{none_active, none_using, nobody_authorised}
-use Rattle.monitor.specs.Sessions.{active, owner, tally}
+use Rattle.monitor.specs.Sessions.{active, is_open, owner, tally}
 use Rattle.families.specs.declared.cardinality.Violation.{Violation}
 use Rattle.families.specs.declared.cardinality.Violation.TheVariants.{UsersOfRole, RolesOfUser, ActiveOfUser, SessionsOfRole}
 use Rattle.families.specs.Cardinality.{users_of, roles_of, WithinLimits, newly_authorised, is_over_users, is_over_sessions, violation_of, violation_number, cardinality}
 use Rattle.families.specs.Family.{Exact}
-use Rattle.families.specs.FamilyLaws.{Named, detail_or_named, admitted_none, none_admitted, none_if, asked_if, not_zero}
+use Rattle.families.specs.FamilyLaws.{Named, detail_named, admitted_none, none_admitted, none_if, asked_if, not_zero}
+use Rattle.families.specs.HousePiles.{BelowOwn}
 
 -- counts and limits
 
@@ -159,7 +160,8 @@ module _ (t : Tables) (w : WellFormed t) (c : Cells) (fits : Fits t c) (ok : Wit
 
   -- another session in the place of one
 
-  module _ (s : ℕ) (y : Session) (l : s < t.sizes.sessions) (may : MayStand c y) where
+  module _ (s : ℕ) (y : Session) (l : s < t.sizes.sessions) (may : MayStand c y)
+      (user : is_open y ≡ true → owner y < t.sizes.users) where
     abbrev seated : Cells
     seated = applied t c (Seated s y)
 
@@ -177,7 +179,7 @@ module _ (t : Tables) (w : WellFormed t) (c : Cells) (fits : Fits t c) (ok : Wit
 
     fewer_using : (r : ℕ) → has more r ≡ false → using seated r ≤ using c r
     fewer_using r none =
-        omega (arith, using_change t w c fits r (Seated s y) (l, may), ap tally none)
+        omega (arith, using_change t w c fits r (Seated s y) (l, may, user), ap tally none)
 
     seated_within : violation_of t c (Seated s y) ≡ None → WithinLimits t seated
     seated_within e = record {
@@ -226,7 +228,7 @@ module _ (t : Tables) (w : WellFormed t) (c : Cells) (fits : Fits t c) (ok : Wit
     active = ok.active;
     sessions = ok.sessions;
   }
-  within_after (Seated s y) may e = seated_within s y may.0 may.1 e
+  within_after (Seated s y) may e = seated_within s y may.0 may.1 may.2 e
 
 -- where the state after is within the limits no question fails
 no_violation : (t : Tables) (c : Cells) (d : Change) → WithinLimits t (applied t c d)
@@ -258,9 +260,9 @@ cardinality_law = record {
   keeps = λ t c e law fits can ok yes.
       within_after t law.formed c fits ok (change_of c e)
       (possible_may t law.formed c fits e can) (admitted_none _ yes);
-  named = λ t c e.
-      detail_or_named violation_number 41 (omega arith, omega arith) named
-      (violation_of t c (change_of c e));
+  named = λ t c e law fits can ok denied.
+      let n = detail_named violation_number named (violation_of t c (change_of c e)) denied in
+      (n.0, omega (arith, n.1));
 }
 
 pub cardinality_exact : Exact cardinality
@@ -269,3 +271,7 @@ cardinality_exact = record {
   allowed_is_admitted = λ t c e law fits can ok after.
       none_admitted _ (no_violation t c (change_of c e) after);
 }
+
+pub cardinality_below_own : BelowOwn cardinality
+cardinality_below_own t c e law fits can ok denied =
+    (detail_named violation_number named (violation_of t c (change_of c e)) denied).1

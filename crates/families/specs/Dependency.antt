@@ -7,7 +7,7 @@ use Rattle.std.specs.Option.{option_map}
 use Rattle.sets.specs.First.{first_below}
 use Rattle.sets.specs.Sets.{has, union}
 use Rattle.policy.specs.declared.tables.Tables.{Tables}
-use Rattle.policy.specs.Entries.{holds}
+use Rattle.policy.specs.Entries.{depends}
 use Rattle.policy.specs.Seniority.{rows_union}
 use Rattle.monitor.specs.declared.changes.Change.{Change}
 use Rattle.monitor.specs.declared.changes.Change.TheVariants.{Seated}
@@ -24,10 +24,6 @@ use Rattle.families.specs.declared.dependency.Violation.TheVariants.{NotActive}
 -- the role is active in some session
 abbrev pub is_active_anywhere : Cells → ℕ → Bool
 is_active_anywhere c r = is_active_for c Anyone r
-
--- role a depends on role b
-abbrev pub depends : Tables → ℕ → ℕ → Bool
-depends t a b = holds t.dependencies.needs a b
 
 abbrev pub Met : Tables → Cells → Type 0
 Met t c = (a b : ℕ)
@@ -56,4 +52,4 @@ violation_of t c (Seated s x) =
 violation_of t c _ = None
 
 abbrev pub dependency : Meaning
-dependency = family Met (by_change violation_of) violation_number violation_subject 61
+dependency = family Met (by_change violation_of) violation_number violation_subject

@@ -28,7 +28,8 @@ use Rattle.families.specs.Dependency.{is_active_anywhere, Met, missing, violatio
 use Rattle.families.specs.Family.{Exact}
 use Rattle.families.specs.declared.dependency.Violation.{Violation}
 use Rattle.families.specs.declared.dependency.Violation.TheVariants.{NotActive}
-use Rattle.families.specs.FamilyLaws.{Named, detail_or_named, admitted_none, none_admitted, none_if, asked_if, not_zero}
+use Rattle.families.specs.FamilyLaws.{Named, detail_named, admitted_none, none_admitted, none_if, asked_if, not_zero}
+use Rattle.families.specs.HousePiles.{BelowOwn}
 
 -- nothing missing and everything met are the same
 met : (t : Tables) (c : Cells) → WellFormed t → missing t c ≡ None → Met t c
@@ -130,9 +131,9 @@ dependency_law = record {
   keeps = λ t c e law fits can all yes.
       met_after t law.formed c fits (change_of c e) (possible_may t law.formed c fits e can) all
       (admitted_none _ yes);
-  named = λ t c e.
-      detail_or_named violation_number 61 (omega arith, omega arith) named
-      (violation_of t c (change_of c e));
+  named = λ t c e law fits can ok denied.
+      let n = detail_named violation_number named (violation_of t c (change_of c e)) denied in
+      (n.0, omega (arith, n.1));
 }
 
 pub dependency_exact : Exact dependency
@@ -141,3 +142,7 @@ dependency_exact = record {
   allowed_is_admitted = λ t c e law fits can all after.
       none_admitted _ (no_violation t c (change_of c e) after);
 }
+
+pub dependency_below_own : BelowOwn dependency
+dependency_below_own t c e law fits can ok denied =
+    (detail_named violation_number named (violation_of t c (change_of c e)) denied).1

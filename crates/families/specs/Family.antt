@@ -13,10 +13,10 @@ use Rattle.monitor.specs.Changes.{change_of, next}
 use Rattle.monitor.specs.Meaning.{Meaning, Lawful}
 use Rattle.monitor.specs.Possible.{Possible}
 
--- what a violation says, or d where there is none
-abbrev pub detail_or : {X : Type 0} → (X → ℕ) → ℕ → Option X → ℕ
-detail_or f d None = d
-detail_or f d (Some x) = f x
+-- what a violation says; 0 where there is none
+abbrev pub detail : {X : Type 0} → (X → ℕ) → Option X → ℕ
+detail f None = 0
+detail f (Some x) = f x
 
 abbrev pub by_change : {X : Type 0} → (Tables → Cells → Change → Option X)
     → Tables → Cells → Event → Option X
@@ -26,14 +26,14 @@ by_change violation t c e = violation t c (change_of c e)
 abbrev pub if_any : {X : Type 0} → ℕ → Option X → Option X
 if_any set violation = if set == 0 then None else violation
 
--- it admits what violates none of its questions; d is the number of the first one
+-- it admits what violates none of its questions, and names the first that is violated
 abbrev pub family : {X : Type 0} → (Tables → Cells → Type 0)
-    → (Tables → Cells → Event → Option X) → (X → ℕ) → (X → ℕ) → ℕ → Meaning
-family allowed violation number subject d = record {
+    → (Tables → Cells → Event → Option X) → (X → ℕ) → (X → ℕ) → Meaning
+family allowed violation number subject = record {
   allowed = allowed;
   admits = λ t c e. not (is_some (violation t c e));
-  number = λ t c e. detail_or number d (violation t c e);
-  subject = λ t c e. detail_or subject 0 (violation t c e);
+  number = λ t c e. detail number (violation t c e);
+  subject = λ t c e. detail subject (violation t c e);
 }
 
 -- in a state that it allows, a rule admits a possible event exactly when it allows the state that a

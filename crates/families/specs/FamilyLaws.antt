@@ -1,10 +1,10 @@
 -- A family admits an event where none of its questions is violated. It proves, and assumes nothing.
-use Rattle.std.specs.Prelude.{◌≡◌, ℕ, ◌≤◌, Bool, true, false, not, ◌&&◌, is_some, Some, None, Option, ◌⊎◌, ◌==◌, refl}
+use Rattle.std.specs.Prelude.{◌≡◌, ℕ, ◌<◌, ◌≤◌, Bool, true, false, not, ◌&&◌, is_some, Some, None, Option, ◌⊎◌, ◌==◌, refl}
 use Rattle.std.proofs.Common.{sym, ap, ◌∙◌, inl, inr}
 use Rattle.std.proofs.lemmas.Bool.{both_ways, cases_Bool, cond_both, cond-false, eqb-true, and_parts, false_from_ne_true}
 use Rattle.sets.specs.Sets.{has}
 use Rattle.monitor.specs.ChangeLaws.{none_has}
-use Rattle.families.specs.Family.{detail_or, if_any}
+use Rattle.families.specs.Family.{detail, if_any}
 
 pub admitted_none : {X : Type 0} (o : Option X) → not (is_some o) ≡ true → o ≡ None
 admitted_none None e = refl
@@ -17,14 +17,14 @@ none_admitted {X} o e = ap (λ (p : Option X). not (is_some p)) e
 pub not_both : (a b : Bool) → (a ≡ true → b ≡ true → ⊥) → (a && b) ≡ false
 not_both a b f = false_from_ne_true (a && b) (λ h. let p = and_parts a b h in f p.0 p.1)
 
--- a number that a refusal can have
+-- a number of a family: above that of a grant, and below those of own rules
 abbrev pub Named : ℕ → Type 0
-Named n = (1 ≤ n) × (n ≤ 255)
+Named n = (1 ≤ n) × (n < 100)
 
-pub detail_or_named : {X : Type 0} (number : X → ℕ) (d : ℕ) → Named d
-    → ((x : X) → Named (number x)) → (o : Option X) → Named (detail_or number d o)
-detail_or_named number d first each None = first
-detail_or_named number d first each (Some x) = each x
+pub detail_named : {X : Type 0} (number : X → ℕ) → ((x : X) → Named (number x)) → (o : Option X)
+    → not (is_some o) ≡ false → Named (detail number o)
+detail_named number each None denied = absurd (both_ways true denied refl)
+detail_named number each (Some x) denied = each x
 
 -- questions that are asked where there is something in a set
 

@@ -1,36 +1,27 @@
--- The house pile, and what separation does anywhere in a pile. Assumes nothing.
-use Rattle.std.specs.Prelude.{ℕ, zero, suc, List, [], ◌∷◌}
+-- The house pile, and what separation keeps in it. Assumes nothing.
+use Rattle.std.specs.Prelude.{List, [], ◌∷◌}
 use Rattle.records.specs.declared.event.Event.{Event}
 use Rattle.policy.specs.declared.tables.Tables.{Tables}
 use Rattle.monitor.specs.declared.governed.GovernedState.{GovernedState}
 use Rattle.monitor.specs.declared.states.Cells.{Cells}
 use Rattle.monitor.specs.Answers.{Answer}
+use Rattle.monitor.specs.Apart.{StaticallyApart}
 use Rattle.monitor.specs.Governed.{tables_of, cells_of}
 use Rattle.monitor.specs.Meaning.{Meaning, Every}
 use Rattle.monitor.specs.RunLaw.{RunLaw}
 use Rattle.families.specs.Cardinality.{cardinality}
 use Rattle.families.specs.Dependency.{dependency}
 use Rattle.families.specs.Precedence.{precedence}
-use Rattle.families.specs.Separation.{separation, StaticallyApart}
+use Rattle.families.specs.Separation.{separation}
 
 -- from the top
 abbrev pub house_rules : List Meaning
 house_rules = cardinality ∷ separation ∷ precedence ∷ dependency ∷ []
 
--- the rule at a place of the pile, counted from 0, allows the state; past the pile nothing is said
-abbrev pub allowed_at : List Meaning → ℕ → Tables → Cells → Type 0
-allowed_at [] k t c = Unit {0}
-allowed_at (m ∷ ms) zero t c = m.allowed t c
-allowed_at (m ∷ ms) (suc k) t c = allowed_at ms k t c
-
 -- a pile in whose allowed states nobody is authorised, even by inheritance, for two roles in static
 -- conflict
 abbrev pub KeepsApart : List Meaning → Type 0
 KeepsApart ms = (t : Tables) (c : Cells) → Every (λ m. m.allowed t c) ms → StaticallyApart t c
-
--- the rule at a place allows only such states, as separation does
-abbrev pub SeparatesAt : List Meaning → ℕ → Type 0
-SeparatesAt ms k = (t : Tables) (c : Cells) → allowed_at ms k t c → StaticallyApart t c
 
 -- whatever events led to the state by the house pile, in the cells d nobody is authorised for two
 -- roles in static conflict

@@ -1,18 +1,5 @@
--- One rule that separates makes its whole pile separate. It proves, and assumes nothing.
-use Rattle.std.proofs.Common.{ℕ, zero, suc, List, [], ◌∷◌}
-use Rattle.policy.specs.declared.tables.Tables.{Tables}
-use Rattle.monitor.specs.declared.states.Cells.{Cells}
-use Rattle.monitor.specs.Meaning.{Meaning, Every}
-use Rattle.families.specs.House.{house_rules, allowed_at, KeepsApart, SeparatesAt}
-
-at_place : (ms : List Meaning) (k : ℕ) (t : Tables) (c : Cells) → Every (λ m. m.allowed t c) ms
-    → allowed_at ms k t c
-at_place [] k t c all = tt
-at_place (m ∷ ms) zero t c all = all.0
-at_place (m ∷ ms) (suc k) t c all = at_place ms k t c all.1
-
-pub pile_apart : (ms : List Meaning) (k : ℕ) → SeparatesAt ms k → KeepsApart ms
-pile_apart ms k sep t c all = sep t c (at_place ms k t c all)
+-- Separation makes the house pile keep static conflicts apart. It proves, and assumes nothing.
+use Rattle.families.specs.House.{house_rules, KeepsApart}
 
 pub house-apart : KeepsApart house_rules
 house-apart t c all = all.1.0.statically

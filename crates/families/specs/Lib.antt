@@ -2,12 +2,16 @@ pub mod Family
 pub mod Cardinality
 pub mod Separation
 pub mod Precedence
+pub mod Requirements
 pub mod Dependency
 pub mod House
+pub mod HousePiles
 pub mod Worked
 pub mod FamilyLaws
 pub mod CardinalityLaws
 pub mod SeparationLaws
 pub mod PrecedenceLaws
+pub mod RequirementsLaws
 pub mod DependencyLaws
 pub mod HouseLaws
+pub mod HousePilesLaws

@@ -2,12 +2,11 @@
 -- Every state is allowed: a role stays so when what it required goes.
 --   required_set, required   the roles that a role requires, by the kind of the requirement
 --   missing_required         the lowest required role that does not stand
---   assigned_in              the roles assigned to some user
 --   violation_by             the first question that an event fails
-use Rattle.std.specs.Prelude.{ℕ, Bool, not, ◌&&◌, List, [], ◌∷◌, None, Option, slice_index_or}
+use Rattle.std.specs.Prelude.{ℕ, Bool, not, ◌&&◌, [], None, Option, slice_index_or}
 use Rattle.std.specs.Option.{option_map, option_or}
 use Rattle.sets.specs.First.{first_below}
-use Rattle.sets.specs.Sets.{has, union}
+use Rattle.sets.specs.Sets.{has}
 use Rattle.sets.specs.Aliases.{RoleSet}
 use Rattle.records.specs.declared.event.Event.{Event}
 use Rattle.records.specs.declared.event.Event.TheVariants.{Assign, Enable, Activate}
@@ -16,7 +15,7 @@ use Rattle.policy.specs.Entries.{no_roles}
 use Rattle.monitor.specs.declared.states.Cells.{Cells}
 use Rattle.monitor.specs.declared.sessions.Session.{Session}
 use Rattle.monitor.specs.declared.sessions.Whose.TheVariants.{Anyone, User}
-use Rattle.monitor.specs.Cells.{is_active_for, is_assigned, is_enabled, session_at}
+use Rattle.monitor.specs.Cells.{assigned_in, is_active_for, is_assigned, is_enabled, session_at}
 use Rattle.monitor.specs.Meaning.{Meaning}
 use Rattle.monitor.specs.Sessions.{active, owner}
 use Rattle.families.specs.Family.{family}
@@ -47,10 +46,6 @@ missing_required t k r stands = first_below 32 (λ b. required t k r b && not (s
 abbrev pub unmet_requirement : Tables → RequirementKind → ℕ → (ℕ → Bool) → Option Violation
 unmet_requirement t k r stands =
     option_map (λ b. record { kind = k; role = b }) (missing_required t k r stands)
-
-abbrev pub assigned_in : List RoleSet → ℕ
-assigned_in [] = 0
-assigned_in (x ∷ xs) = union x.bits (assigned_in xs)
 
 -- the role is assigned to some user
 abbrev pub assigned_anywhere : Cells → ℕ → Bool
@@ -95,4 +90,4 @@ abbrev pub violation_subject : Violation → ℕ
 violation_subject v = v.role
 
 abbrev pub precedence : Meaning
-precedence = family (λ t c. Unit {0}) violation_by violation_number violation_subject 51
+precedence = family (λ t c. Unit {0}) violation_by violation_number violation_subject

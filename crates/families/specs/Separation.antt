@@ -10,13 +10,14 @@ use Rattle.sets.specs.First.{first_below}
 use Rattle.sets.specs.Sets.{has, difference}
 use Rattle.sets.specs.Aliases.{RoleSet}
 use Rattle.policy.specs.declared.tables.Tables.{Tables}
-use Rattle.policy.specs.Entries.{ssd_pair, dsd_pair, users_pair}
+use Rattle.policy.specs.Entries.{dsd_pair, users_pair}
 use Rattle.policy.specs.Seniority.{rows_union}
 use Rattle.monitor.specs.declared.changes.Change.{Change}
 use Rattle.monitor.specs.declared.changes.Change.TheVariants.{Assigned, Enabled, Seated}
 use Rattle.monitor.specs.declared.sessions.Whose.TheVariants.{User}
 use Rattle.monitor.specs.declared.states.Cells.{Cells}
-use Rattle.monitor.specs.Authority.{Authorised, authority_of}
+use Rattle.monitor.specs.Apart.{StaticallyApart}
+use Rattle.monitor.specs.Authority.{authority_of}
 use Rattle.monitor.specs.Cells.{assigned_roles, is_active_for}
 use Rattle.monitor.specs.Changes.{applied, gained}
 use Rattle.monitor.specs.Meaning.{Meaning}
@@ -24,10 +25,6 @@ use Rattle.monitor.specs.Sessions.{owner}
 use Rattle.families.specs.Family.{family, by_change, if_any}
 use Rattle.families.specs.declared.separation.Violation.{Violation}
 use Rattle.families.specs.declared.separation.Violation.TheVariants.{StaticRole, DynamicRole, ConflictingUser}
-
--- nobody is authorised, even by inheritance, for two roles in static conflict
-abbrev pub StaticallyApart : Tables → Cells → Type 0
-StaticallyApart t c = (u a b : ℕ) → Authorised t c u a → Authorised t c u b → ssd_pair t a b ≡ false
 
 pub record Separated (t : Tables) (c : Cells) : Type 0 where
   pub statically : StaticallyApart t c
@@ -89,4 +86,4 @@ violation_subject (DynamicRole a) = a
 violation_subject (ConflictingUser v) = v
 
 abbrev pub separation : Meaning
-separation = family Separated (by_change violation_of) violation_number violation_subject 45
+separation = family Separated (by_change violation_of) violation_number violation_subject

@@ -22,6 +22,7 @@ use Rattle.monitor.specs.declared.changes.Change.TheVariants.{Assigned, Enabled,
 use Rattle.monitor.specs.declared.sessions.Session.{Session}
 use Rattle.monitor.specs.declared.sessions.Whose.TheVariants.{User}
 use Rattle.monitor.specs.declared.states.Cells.{Cells}
+use Rattle.monitor.specs.Apart.{StaticallyApart}
 use Rattle.monitor.specs.Authority.{Authorised, authority_of, Fits}
 use Rattle.monitor.specs.AuthorityLaws.{authority_of_senior, senior_authority_of}
 use Rattle.monitor.specs.Cells.{assigned_roles, is_assigned, is_active_for, blank}
@@ -31,10 +32,11 @@ use Rattle.monitor.specs.Meaning.{Law}
 use Rattle.monitor.specs.NewStateLaws.{none_active, nobody_assigned}
 use Rattle.monitor.specs.Sessions.{owner}
 use Rattle.families.specs.Family.{Exact}
-use Rattle.families.specs.Separation.{StaticallyApart, Separated, newly_assigned, static_conflict, dynamic_conflict, some_below, is_rival, user_conflict, violation_of, violation_number, separation}
+use Rattle.families.specs.Separation.{Separated, newly_assigned, static_conflict, dynamic_conflict, some_below, is_rival, user_conflict, violation_of, violation_number, separation}
 use Rattle.families.specs.declared.separation.Violation.{Violation}
 use Rattle.families.specs.declared.separation.Violation.TheVariants.{StaticRole, DynamicRole, ConflictingUser}
-use Rattle.families.specs.FamilyLaws.{Named, detail_or_named, admitted_none, none_admitted, not_both, none_if, asked_if, not_zero}
+use Rattle.families.specs.FamilyLaws.{Named, detail_named, admitted_none, none_admitted, not_both, none_if, asked_if, not_zero}
+use Rattle.families.specs.HousePiles.{BelowOwn}
 
 -- some number below another passes a test
 pub some_at : (n : ℕ) (test : ℕ → Bool) (k : ℕ) → k < n → test k ≡ true → some_below n test ≡ true
@@ -301,9 +303,9 @@ separation_law = record {
       separated_after t law.formed c fits (change_of c e)
       (λ a b d. law.passes (UninheritedConflict a b d))
       (possible_may t law.formed c fits e can) sep (admitted_none _ yes);
-  named = λ t c e.
-      detail_or_named violation_number 45 (omega arith, omega arith) named
-      (violation_of t c (change_of c e));
+  named = λ t c e law fits can ok denied.
+      let n = detail_named violation_number named (violation_of t c (change_of c e)) denied in
+      (n.0, omega (arith, n.1));
 }
 
 pub separation_exact : Exact separation
@@ -313,3 +315,7 @@ separation_exact = record {
       none_admitted _ (no_violation t law.formed c fits (change_of c e)
       (possible_may t law.formed c fits e can) after);
 }
+
+pub separation_below_own : BelowOwn separation
+separation_below_own t c e law fits can ok denied =
+    (detail_named violation_number named (violation_of t c (change_of c e)) denied).1

@@ -12,7 +12,7 @@ ghost use Rattle.families.specs.Cardinality.{is_over_users, is_over_sessions, ov
 ghost use Rattle.families.specs.Cardinality.{over_authorised, over_active};
 ghost use Rattle.families.specs.Cardinality.{violation_of, violation_number, violation_subject, cardinality};
 ghost use Rattle.families.specs.CardinalityLaws.{cardinality_law};
-ghost use Rattle.families.specs.Family.{Exact, by_change};
+ghost use Rattle.families.specs.Family.{by_change};
 ghost use Rattle.std.proofs.Common.{rules};
 
 use monitor::answers::Reason;
@@ -231,16 +231,5 @@ impl Rule for Cardinality {
 
     fn places(&self) -> u8 {
         1
-    }
-}
-
-impl Cardinality {
-    /// How many rules there are: one. In a state that it allows, it admits a possible event exactly
-    /// when it allows the state that a grant makes.
-    pub fn exactness(&self) -> u8
-        ensures value { result ≡ 1 }
-        ensures law { Exact cardinality }
-    {
-        self.places()
     }
 }

@@ -5,7 +5,7 @@ ghost use Rattle.monitor.specs.Answers.{at_top};
 ghost use Rattle.monitor.specs.PossibleEvents.{tables_of, cells_of};
 ghost use Rattle.families.specs.Dependency.{dependency, violation_of, violation_number, violation_subject, missing_from};
 ghost use Rattle.families.specs.DependencyLaws.{dependency_law};
-ghost use Rattle.families.specs.Family.{Exact, by_change};
+ghost use Rattle.families.specs.Family.{by_change};
 ghost use Rattle.std.proofs.Common.{rules};
 
 use monitor::answers::Reason;
@@ -102,16 +102,5 @@ impl Rule for Dependency {
 
     fn places(&self) -> u8 {
         1
-    }
-}
-
-impl Dependency {
-    /// How many rules there are: one. In a state that it allows, it admits a possible event exactly
-    /// when it allows the state that a grant makes.
-    pub fn exactness(&self) -> u8
-        ensures value { result ≡ 1 }
-        ensures law { Exact dependency }
-    {
-        self.places()
     }
 }

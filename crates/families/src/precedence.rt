@@ -5,7 +5,7 @@ ghost use Rattle.policy.specs.Asking.{ok_unless};
 ghost use Rattle.monitor.specs.Answers.{at_top};
 ghost use Rattle.monitor.specs.PossibleEvents.{tables_of, cells_of};
 ghost use Rattle.families.specs.Precedence.{precedence, requirement_number, requirement_row, required_set, unmet_requirement};
-ghost use Rattle.families.specs.Precedence.{assigned_in, unmet_at_enabling, unmet_at_assignment, unmet_at_activation};
+ghost use Rattle.families.specs.Precedence.{unmet_at_enabling, unmet_at_assignment, unmet_at_activation};
 ghost use Rattle.families.specs.Precedence.{violation_by, violation_number, violation_subject};
 ghost use Rattle.families.specs.PrecedenceLaws.{precedence_law};
 ghost use Rattle.std.proofs.Common.{rules};
@@ -119,15 +119,6 @@ fn require(
     none_of(missing.lowest()).map_err(|role| Violation { kind, role })
 }
 
-// The roles assigned to some user.
-fn assigned_among(users: &[RoleSet; 64]) -> RoleSet
-    ensures { result ≡ record { bits = assigned_in users.now } }
-{
-    users
-        .iter()
-        .fold(RoleSet::empty(), |all, roles| roles.union(all))
-}
-
 // The question to the enabling of a role.
 fn unmet_at_enabling(possible: PossibleEvent, role: u8) -> Result<(), Violation>
     ensures { result ≡ ok_unless (unmet_at_enabling (tables_of possible.entry)
@@ -142,10 +133,9 @@ fn unmet_at_assignment(possible: PossibleEvent, user: u8, role: u8) -> Result<()
     ensures { result ≡ ok_unless (unmet_at_assignment (tables_of possible.entry)
         (cells_of possible.entry) user role) }
 {
-    let cells = possible.cells();
-    let own = cells.assigned(user);
+    let own = possible.cells().assigned(user);
     require(possible, RequirementKind::AssignedToUser, role, own)?;
-    let anywhere = assigned_among(&cells.assigned);
+    let anywhere = possible.governed.assigned_to_any();
     require(possible, RequirementKind::AssignedToAny, role, anywhere)
 }
 

@@ -10,7 +10,7 @@ ghost use Rattle.monitor.specs.Cells.{is_active_for};
 ghost use Rattle.monitor.specs.Changes.{next};
 ghost use Rattle.monitor.specs.PossibleEvents.{tables_of, cells_of};
 ghost use Rattle.monitor.specs.Sessions.{active_in};
-ghost use Rattle.families.specs.Family.{Exact, by_change};
+ghost use Rattle.families.specs.Family.{by_change};
 ghost use Rattle.families.specs.Separation.{static_conflict, dynamic_conflict, user_conflict};
 ghost use Rattle.families.specs.Separation.{violation_of, violation_number, violation_subject, separation};
 ghost use Rattle.families.specs.declared.separation.Violation.TheVariants.{StaticRole, DynamicRole, ConflictingUser};
@@ -215,16 +215,5 @@ impl Rule for Separation {
 
     fn places(&self) -> u8 {
         1
-    }
-}
-
-impl Separation {
-    /// How many rules there are: one. In a state that it allows, it admits a possible event exactly
-    /// when it allows the state that a grant makes.
-    pub fn exactness(&self) -> u8
-        ensures value { result ≡ 1 }
-        ensures law { Exact separation }
-    {
-        self.places()
     }
 }

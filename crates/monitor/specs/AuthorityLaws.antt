@@ -1,6 +1,6 @@
 -- The stored authorised roles are those of the relation. It proves, for the crates above, and
 -- assumes nothing.
-use Rattle.std.proofs.Common.{◌≡◌, ℕ, ◌<◌, true, get_or, sym, ap, ◌∙◌, inl, inr, arith}
+use Rattle.std.proofs.Common.{◌≡◌, ℕ, ◌<◌, ◌≤◌, true, get_or, sym, refl, ap, ◌∙◌, inl, inr, arith}
 use Rattle.sets.specs.Aliases.{RoleSet}
 use Rattle.sets.specs.Sets.{has}
 use Rattle.policy.specs.declared.tables.Tables.{Tables}
@@ -8,10 +8,12 @@ use Rattle.policy.specs.Entries.{no_roles, inherits}
 use Rattle.policy.specs.Seniority.{Senior, closure, TellsSeniority}
 use Rattle.policy.specs.WellFormed.{WellFormed}
 use Rattle.policy.specs.SeniorityLaws.{closure_tells, closed_length, held_inside, rows_union_in, rows_union_out, senior_within}
+use Rattle.monitor.specs.declared.sessions.Session.{Session}
+use Rattle.monitor.specs.declared.sessions.Session.TheVariants.{Closed, Open}
 use Rattle.monitor.specs.declared.states.Cells.{Cells}
-use Rattle.monitor.specs.Authority.{Authorised, authority_of, Fits}
+use Rattle.monitor.specs.Authority.{Authorised, authority_of, Fits, AuthorisedByRelation}
 use Rattle.monitor.specs.Cells.{is_authorised, is_active, session_at}
-use Rattle.monitor.specs.Sessions.{owner}
+use Rattle.monitor.specs.Sessions.{is_open, active, owner}
 
 module _ (t : Tables) (w : WellFormed t) where
   tells : TellsSeniority t.hierarchy.juniors (closure t.hierarchy.juniors)
@@ -66,3 +68,21 @@ module _ (t : Tables) (w : WellFormed t) where
 
     pub active-below : (s r : ℕ) → is_active c s r ≡ true → r < t.sizes.roles
     active-below s r h = authorised-below (owner (session_at c s)) r (fits.sound.entitled s r h)
+
+    pub by_relation : AuthorisedByRelation t c
+    by_relation = record {
+      stored_is_related = stored_relation;
+      related_is_stored = relation_stored;
+      owner_is_related =
+          λ s b h. stored_relation (owner (session_at c s)) b (fits.sound.entitled s b h);
+    }
+
+-- past the policy's sessions nothing is active
+pub unused : (t : Tables) (c : Cells) → Fits t c → (s : ℕ) → t.sizes.sessions ≤ s
+    → active (session_at c s) ≡ 0
+unused t c fits s l = none (session_at c s) (fits.open_within s)
+  where
+    none : (x : Session)
+        → (is_open x ≡ true → (s < t.sizes.sessions) × (owner x < t.sizes.users)) → active x ≡ 0
+    none Closed within = refl
+    none (Open o a) within = let h = (within refl).0 in absurd (omega arith)

@@ -1,11 +1,12 @@
 -- What stands in a state, and what holds in every state. Assumes nothing.
 --   is_assigned ..      what stands in the cells
---   active_roles        the roles active in anyone's sessions, or in a user's
+--   assigned_in         the roles assigned to some user
+--   is_active_for       a role is active in anyone's sessions, or in a user's
 --   seats, using        what a limit bounds: the different roles active for a user, and the
 --                       sessions that have a role active
-use Rattle.std.specs.Prelude.{◌≡◌, ℕ, ◌<◌, Bool, true, length, replicate, slice_index_or}
+use Rattle.std.specs.Prelude.{◌≡◌, ℕ, ◌<◌, Bool, true, List, [], ◌∷◌, length, replicate, slice_index_or}
 use Rattle.sets.specs.Aliases.{RoleSet}
-use Rattle.sets.specs.Sets.{has, count_below}
+use Rattle.sets.specs.Sets.{has, union, count_below}
 use Rattle.policy.specs.Entries.{no_roles, holds}
 use Rattle.monitor.specs.declared.states.Cells.{Cells}
 use Rattle.monitor.specs.declared.sessions.Session.{Session}
@@ -25,6 +26,10 @@ authorised_roles c u = slice_index_or c.authorised u no_roles
 
 abbrev pub is_assigned : Cells → ℕ → ℕ → Bool
 is_assigned c u r = holds c.assigned u r
+
+abbrev pub assigned_in : List RoleSet → ℕ
+assigned_in [] = 0
+assigned_in (x ∷ xs) = union x.bits (assigned_in xs)
 
 abbrev pub is_authorised : Cells → ℕ → ℕ → Bool
 is_authorised c u r = holds c.authorised u r

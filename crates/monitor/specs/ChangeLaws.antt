@@ -1,7 +1,7 @@
 -- A change that may be made leads from a state that fits the policy to one that fits it, and so
 -- does every possible event; and what a user gains by it. It proves, for the crates above, and
 -- assumes nothing.
-use Rattle.std.proofs.Common.{◌≡◌, ℕ, ◌<◌, ◌≤◌, true, false, not, ◌&&◌, eqb, ltb, ◌⊎◌, get_or, set, None, sym, refl, ap, ◌∙◌, inl, inr, arith}
+use Rattle.std.proofs.Common.{◌≡◌, ℕ, ◌<◌, true, false, not, ◌&&◌, eqb, ltb, ◌⊎◌, get_or, set, None, sym, refl, ap, ◌∙◌, inl, inr, arith}
 use Rattle.std.proofs.lemmas.List.{length-set, get_or-set_same, get_or-set_other}
 use Rattle.std.proofs.lemmas.Bool.{both_ways, cases_Bool, cases_eq, eqb-true, eq-eqb, ne_eqb, ltb-true, lt-ltb, and_parts, and_from, or_cases, or_left, or_right, not-true, not_from_false}
 use Rattle.std.specs.Prelude.{◌≢◌}
@@ -30,7 +30,7 @@ use Rattle.monitor.specs.Changes.{with_role, without_role, change_of, applied, n
 use Rattle.monitor.specs.Possible.{lost_authority, session_question, Possible}
 use Rattle.monitor.specs.AuthorityLaws.{authority_of_more, active-below}
 use Rattle.monitor.specs.SessionLaws.{active-counted, active-set, active_put, owner_is_meant, meant_is_owner, where_parts}
-use Rattle.monitor.specs.Sessions.{active, owner, is_meant, active_where, with_active}
+use Rattle.monitor.specs.Sessions.{is_open, active, owner, is_meant, active_where, with_active}
 
 -- two numbers in range
 pub both_below : (a m b n : ℕ) → (ltb a m && ltb b n) ≡ true → (a < m) × (b < n)
@@ -74,8 +74,11 @@ pub record MayHave (t : Tables) (c : Cells) (u : ℕ) (roles : RoleSet) : Type 0
 -- a change that may be made
 abbrev pub MayChange : Tables → Cells → Change → Type 0
 MayChange t c (Assigned u roles) = MayHave t c u roles
-MayChange t c (Enabled roles) = (s r : ℕ) → is_active c s r ≡ true → has roles.bits r ≡ true
-MayChange t c (Seated s x) = (s < t.sizes.sessions) × MayStand c x
+MayChange t c (Enabled roles) =
+    ((s r : ℕ) → is_active c s r ≡ true → has roles.bits r ≡ true)
+    × ((r : ℕ) → has roles.bits r ≡ true → r < t.sizes.roles)
+MayChange t c (Seated s x) =
+    (s < t.sizes.sessions) × MayStand c x × (is_open x ≡ true → owner x < t.sizes.users)
 
 module _ (t : Tables) (w : WellFormed t) (c : Cells) (fits : Fits t c) where
   stands : (s : ℕ) → MayStand c (session_at c s)
@@ -91,8 +94,8 @@ module _ (t : Tables) (w : WellFormed t) (c : Cells) (fits : Fits t c) where
   -- the three changes
 
   seated_fits : (s : ℕ) (x : Session) → s < t.sizes.sessions → MayStand c x
-      → Fits t (applied t c (Seated s x))
-  seated_fits s x l may = record {
+      → (is_open x ≡ true → owner x < t.sizes.users) → Fits t (applied t c (Seated s x))
+  seated_fits s x l may user = record {
     sound = record {
       wide = (wide.0, wide.1, length-set c.sessions s x ∙ wide.2);
       owned =
@@ -106,14 +109,16 @@ module _ (t : Tables) (w : WellFormed t) (c : Cells) (fits : Fits t c) where
     };
     stored = fits.stored;
     ranged = fits.ranged;
-    unused =
-        set_each (λ i y. t.sizes.sessions ≤ i → active y ≡ 0) c.sessions s x session.Closed
-        fits.unused (λ k. absurd (omega arith));
+    enabled_within = fits.enabled_within;
+    open_within =
+        set_each (λ i y. is_open y ≡ true → (i < t.sizes.sessions) × (owner y < t.sizes.users))
+        c.sessions s x session.Closed fits.open_within (λ h. (l, user h));
   }
 
   enabled_fits : (roles : RoleSet) → ((s r : ℕ) → is_active c s r ≡ true → has roles.bits r ≡ true)
+      → ((r : ℕ) → has roles.bits r ≡ true → r < t.sizes.roles)
       → Fits t (applied t c (Enabled roles))
-  enabled_fits roles live = record {
+  enabled_fits roles live inside = record {
     sound = record {
       wide = fits.sound.wide;
       owned = fits.sound.owned;
@@ -122,7 +127,8 @@ module _ (t : Tables) (w : WellFormed t) (c : Cells) (fits : Fits t c) where
     };
     stored = fits.stored;
     ranged = fits.ranged;
-    unused = fits.unused;
+    enabled_within = inside;
+    open_within = fits.open_within;
   }
 
   assigned_fits : (u : ℕ) (roles : RoleSet) → MayHave t c u roles
@@ -149,7 +155,8 @@ module _ (t : Tables) (w : WellFormed t) (c : Cells) (fits : Fits t c) where
         set_each (λ v row. (r : ℕ) → has row.bits r ≡ true
         → (v < t.sizes.users) × (r < t.sizes.roles)) c.assigned u roles no_roles
         fits.ranged (λ r h. (may.below, may.inside r h));
-    unused = fits.unused;
+    enabled_within = fits.enabled_within;
+    open_within = fits.open_within;
   }
     where
       stored : Stored t (applied t c (Assigned u roles))
@@ -175,8 +182,8 @@ module _ (t : Tables) (w : WellFormed t) (c : Cells) (fits : Fits t c) where
 
   pub change_fits : (d : Change) → MayChange t c d → Fits t (applied t c d)
   change_fits (Assigned u roles) may = assigned_fits u roles may
-  change_fits (Enabled roles) may = enabled_fits roles may
-  change_fits (Seated s x) may = seated_fits s x may.0 may.1
+  change_fits (Enabled roles) may = enabled_fits roles may.0 may.1
+  change_fits (Seated s x) may = seated_fits s x may.0 may.1 may.2
 
   -- the change of a possible event may be made: each event in turn
 
@@ -277,11 +284,25 @@ module _ (t : Tables) (w : WellFormed t) (c : Cells) (fits : Fits t c) where
     entitled = λ k h. old.entitled k (has-without_member 32 a.bits r k h);
   }
 
+  -- a session with other roles active has the owner that it had
+  same_user : {n : ℕ} (x : Session) (roles : RoleSet)
+      → (is_open x ≡ true → (n < t.sizes.sessions) × (owner x < t.sizes.users))
+      → is_open (with_active x roles) ≡ true → owner (with_active x roles) < t.sizes.users
+  same_user session.Closed roles within h = absurd (both_ways false refl h)
+  same_user (session.Open o a) roles within h = (within refl).1
+
   pub possible_may : (e : Event) → Possible t c e → MayChange t c (change_of c e)
   possible_may (Assign u r) can = may_assign u r can
   possible_may (Deassign u r) can = may_deassign u r can
-  possible_may (Enable r) can = λ s k h. has_still c.enabled r k (fits.sound.live s k h)
-  possible_may (Disable r) can = may_disable r can
+  possible_may (Enable r) can = (
+    λ s k h. has_still c.enabled r k (fits.sound.live s k h),
+    λ k h. elim (has_either c.enabled r k h) [
+      | inl p ↦ fits.enabled_within k p
+      | inr e ↦ let l = ltb-true r t.sizes.roles (passed _ _ _ can).0 in omega arith
+    ],
+  )
+  possible_may (Disable r) can =
+      (may_disable r can, λ k h. fits.enabled_within k (has-without_member 32 c.enabled.bits r k h))
   possible_may (Open s u) can =
       let l = both_below s t.sizes.sessions u t.sizes.users (passed _ _ _ can).0 in (
         l.0,
@@ -290,19 +311,23 @@ module _ (t : Tables) (w : WellFormed t) (c : Cells) (fits : Fits t c) where
           live = λ r h. none_has r h;
           entitled = λ r h. none_has r h;
         },
+        λ h. l.1,
       )
   possible_may (Close s) can = (
     ltb-true s t.sizes.sessions (passed _ _ _ can).0,
     record { owned = omega arith; live = λ r h. none_has r h; entitled = λ r h. none_has r h },
+    λ h. absurd (both_ways false refl h),
   )
   possible_may (Activate s r) can =
       let q = passed _ _ _ can in (
         (both_below s t.sizes.sessions r t.sizes.roles q.0).0,
         may_activate s r (session_at c s) (stands s) q.1,
+        same_user (session_at c s) _ (fits.open_within s),
       )
   possible_may (Deactivate s r) can = (
     (both_below s t.sizes.sessions r t.sizes.roles (passed _ _ _ can).0).0,
     may_deactivate r (session_at c s) (stands s),
+    same_user (session_at c s) _ (fits.open_within s),
   )
 
   pub next_fits : (e : Event) → Possible t c e → Fits t (next t c e)
@@ -322,9 +347,7 @@ module _ (t : Tables) (w : WellFormed t) (c : Cells) (fits : Fits t c) where
 
     -- only roles of the policy are active in it, and in the one before
     pub low_after : (k : ℕ) → has (active y) k ≡ true → k < 32
-    low_after k h =
-        few (active-below t w seated (seated_fits s y l may) s k
-        (ap (λ x. has (active x) k) seated-there ∙ h))
+    low_after k h = few (fits.enabled_within k (may.live k h))
 
     pub low_before : (k : ℕ) → has (active (session_at c s)) k ≡ true → k < 32
     low_before k h = few (active-below t w c fits s k h)

@@ -22,6 +22,7 @@ use Rattle.monitor.specs.Meaning.{Lawful}
 use Rattle.monitor.specs.Possible.{Possible, impossibility}
 use Rattle.monitor.specs.SessionLaws.{active_in-take, using-take}
 use Rattle.monitor.specs.Sessions.{active_in, sessions_using}
+use Rattle.monitor.specs.AuthorityLaws.{unused}
 use Rattle.monitor.specs.ChangeLaws.{MayChange, change_fits, possible_may, next_fits}
 
 pub state-sound : (s : State) → Sound s.cells
@@ -32,7 +33,13 @@ governed_formed g = policy_well_formed g.policy
 
 pub governed_fits : (g : GovernedState) → Fits (tables_of g) (cells_of g)
 governed_fits g =
-    record { sound = state-sound g.state; stored = g.stored; ranged = g.ranged; unused = g.unused }
+    record {
+      sound = state-sound g.state;
+      stored = g.stored;
+      ranged = g.ranged;
+      enabled_within = g.enabled_within;
+      open_within = g.open_within;
+    }
 
 pub moved_fits : (g : GovernedState) (e : Event) (d : Cells)
     → None ≡ impossibility (tables_of g) (cells_of g) e
@@ -51,13 +58,15 @@ pub sessions-active_in : (g : GovernedState) (w : Whose)
     → active_in w (take (tables_of g).sizes.sessions (cells_of g).sessions)
     ≡ active_in w (cells_of g).sessions
 sessions-active_in g w =
-    active_in-take w (tables_of g).sizes.sessions (cells_of g).sessions g.unused
+    active_in-take w (tables_of g).sizes.sessions (cells_of g).sessions
+    (unused (tables_of g) (cells_of g) (governed_fits g))
 
 pub sessions-using : (g : GovernedState) (r : ℕ)
     → sessions_using (take (tables_of g).sizes.sessions (cells_of g).sessions) r
     ≡ sessions_using (cells_of g).sessions r
 sessions-using g r =
-    using-take (tables_of g).sizes.sessions (cells_of g).sessions r g.unused
+    using-take (tables_of g).sizes.sessions (cells_of g).sessions r
+    (unused (tables_of g) (cells_of g) (governed_fits g))
 
 -- and so after a possible event that puts another session in the place of one
 module _ (g : GovernedState) (e : Event)
@@ -80,7 +89,7 @@ module _ (g : GovernedState) (e : Event)
       → active_in w (set (take t.sizes.sessions c.sessions) s y) ≡ active_in w (next t c e).sessions
   sessions-active_in-set w =
       ap (active_in w) (sym (take-set-lt t.sizes.sessions c.sessions s y may.0))
-      ∙ active_in-take w t.sizes.sessions (set c.sessions s y) fits.unused
+      ∙ active_in-take w t.sizes.sessions (set c.sessions s y) (unused t (applied t c (Seated s y)) fits)
       ∙ ap (λ d. active_in w (applied t c d).sessions) is
 
   pub sessions-using-set : (r : ℕ)
@@ -88,5 +97,6 @@ module _ (g : GovernedState) (e : Event)
       ≡ sessions_using (next t c e).sessions r
   sessions-using-set r =
       ap (λ xs. sessions_using xs r) (sym (take-set-lt t.sizes.sessions c.sessions s y may.0))
-      ∙ using-take t.sizes.sessions (set c.sessions s y) r fits.unused
+      ∙ using-take t.sizes.sessions (set c.sessions s y) r
+      (unused t (applied t c (Seated s y)) fits)
       ∙ ap (λ d. sessions_using (applied t c d).sessions r) is

@@ -5,7 +5,7 @@
 --   ruling     the answer of a pile: that of the topmost rule that does not admit the event
 -- A pile is one rule, or two piles, the upper above the lower. A place counts its rules from 1 at
 -- the top; 255 stands for every place past 254.
-use Rattle.std.specs.Prelude.{◌≡◌, ℕ, ◌+◌, ◌≤◌, min, Bool, true, if◌then◌else◌, List, [], ◌∷◌, Ok, Err, Result}
+use Rattle.std.specs.Prelude.{◌≡◌, ℕ, ◌+◌, ◌≤◌, min, Bool, true, false, if◌then◌else◌, List, [], ◌∷◌, Ok, Err, Result}
 use Rattle.records.specs.declared.event.Event.{Event}
 use Rattle.policy.specs.declared.tables.Tables.{Tables}
 use Rattle.policy.specs.Questions.{Passes}
@@ -34,9 +34,10 @@ pub record Law (m : Meaning) : Type 0 where
   -- from a state that it allows, a possible event that it admits leads to a state that it allows
   pub keeps : (t : Tables) (c : Cells) (e : Event) → Lawful t → Fits t c → Possible t c e
       → m.allowed t c → m.admits t c e ≡ true → m.allowed t (next t c e)
-  -- its number is never that of a grant, and fits a byte
-  pub named : (t : Tables) (c : Cells) (e : Event)
-      → (1 ≤ m.number t c e) × (m.number t c e ≤ 255)
+  -- the number that it names for a possible event that it does not admit, in a state that it
+  -- allows, is never that of a grant, and fits a byte
+  pub named : (t : Tables) (c : Cells) (e : Event) → Lawful t → Fits t c → Possible t c e
+      → m.allowed t c → m.admits t c e ≡ false → (1 ≤ m.number t c e) × (m.number t c e ≤ 255)
 
 abbrev pub Every : (Meaning → Type 0) → List Meaning → Type 0
 Every P [] = Unit {0}

@@ -13,7 +13,7 @@ use Rattle.monitor.specs.Authority.{authority_of, Fits}
 use Rattle.monitor.specs.declared.sessions.Whose.{Whose}
 use Rattle.monitor.specs.Cells.{session_at, blank, is_active_for, is_assigned, is_authorised, using}
 use Rattle.monitor.specs.SessionLaws.{active_found, using_none}
-use Rattle.monitor.specs.Sessions.{active, owner}
+use Rattle.monitor.specs.Sessions.{is_open, active, owner}
 
 -- every session of a new state is closed, and nobody has a role
 pub all_closed : (s : ℕ) → session_at blank s ≡ Closed
@@ -44,7 +44,9 @@ blank-fits t = record {
       ∙ sym (ap (λ (s : RoleSet). (authority_of t s).bits) (none_assigned u)
       ∙ rows_union_none _ 32);
   ranged = λ u r h. none r _ (ap (λ (s : RoleSet). s.bits) (none_assigned u)) h;
-  unused = λ s l. ap active (all_closed s);
+  enabled_within = λ r h. absurd (both_ways (has 0 r) (has-zero r) h);
+  open_within =
+      λ s h. absurd (both_ways (is_open (session_at blank s)) (ap is_open (all_closed s)) h);
 }
 
 -- in the new state nothing is active, for anyone

@@ -25,6 +25,10 @@ use Rattle.monitor.specs.Meaning.{Meaning, Lawful, Law, Every, Ruling, ruling, d
 use Rattle.monitor.specs.Possible.{impossibility, Possible}
 use Rattle.monitor.specs.Runs.{admissions, Topmost, Ruled, Ran}
 use Rattle.monitor.specs.Runs.Ran.{done, impossible, refused, admitted_by_all}
+use Rattle.monitor.specs.Journal.{GrantedAgain}
+use Rattle.monitor.specs.JournalLaws.{granted_again}
+use Rattle.monitor.specs.ApartLaws.{pile_apart}
+use Rattle.monitor.specs.AuthorityLaws.{by_relation}
 use Rattle.monitor.specs.NewStateLaws.{blank-fits, none_using}
 use Rattle.monitor.specs.CountLaws.{using_next}
 use Rattle.monitor.specs.GovernedLaws.{approved_lawful}
@@ -51,7 +55,12 @@ by_way None (Ok x) roles c n Q a b g = g refl refl
 -- what a ruling says: all admit the event, or which rule is the topmost that does not
 abbrev Said : List Meaning → Tables → Cells → Event → Ruling → Type 0
 Said ms t c e (Ok x) = Every (λ m. m.admits t c e ≡ true) ms
-Said ms t c e (Err r) = Topmost ms t c e r.number r.subject r.place × (1 ≤ r.number)
+Said ms t c e (Err r) = Topmost ms t c e r.number r.subject r.place
+
+-- a number of a reason is not that of a grant
+abbrev Numbered : Ruling → Type 0
+Numbered (Ok x) = Unit {0}
+Numbered (Err r) = 1 ≤ r.number
 
 under : (m : Meaning) (ms : List Meaning) (t : Tables) (c : Cells) (e : Event) (r : Reason)
     → m.admits t c e ≡ true
@@ -71,27 +80,35 @@ under m ms t c e r h top = record {
     over zero lt = h
     over (suc k) lt = top.above k (omega arith)
 
-said : (ms : List Meaning) → Every Law ms → (t : Tables) (c : Cells) (e : Event)
-    → Said ms t c e (ruling ms t c e)
-said [] law t c e = tt
-said (m ∷ ms) law t c e = go (m.admits t c e) refl (ruling ms t c e) (said ms law.1 t c e)
+said : (ms : List Meaning) (t : Tables) (c : Cells) (e : Event) → Said ms t c e (ruling ms t c e)
+said [] t c e = tt
+said (m ∷ ms) t c e = go (m.admits t c e) refl (ruling ms t c e) (said ms t c e)
   where
     go : (b : Bool) → m.admits t c e ≡ b → (v : Ruling) → Said ms t c e v
         → Said (m ∷ ms) t c e (cond b (deeper 1 v) (Err (own_reason m t c e)))
     go true h (Ok x) s = (h, s)
-    go true h (Err r) s = (under m ms t c e r h s.0, s.1)
-    go false h v s = (
-      record {
-        rule = 0;
-        among = omega arith;
-        refuses = h;
-        above = λ k lt. absurd (omega arith);
-        its_number = refl;
-        its_subject = refl;
-        its_place = refl;
-      },
-      (law.0.named t c e).0,
-    )
+    go true h (Err r) s = under m ms t c e r h s
+    go false h v s = record {
+      rule = 0;
+      among = omega arith;
+      refuses = h;
+      above = λ k lt. absurd (omega arith);
+      its_number = refl;
+      its_subject = refl;
+      its_place = refl;
+    }
+
+numbered : (ms : List Meaning) → Every Law ms → (t : Tables) (c : Cells) (e : Event) → Lawful t
+    → Fits t c → Possible t c e → Every (λ m. m.allowed t c) ms → Numbered (ruling ms t c e)
+numbered [] law t c e ok fits can all = tt
+numbered (m ∷ ms) law t c e ok fits can all =
+    go (m.admits t c e) refl (ruling ms t c e) (numbered ms law.1 t c e ok fits can all.1)
+  where
+    go : (b : Bool) → m.admits t c e ≡ b → (v : Ruling) → Numbered v
+        → Numbered (cond b (deeper 1 v) (Err (own_reason m t c e)))
+    go true h (Ok x) n = tt
+    go true h (Err r) n = n
+    go false h v n = (law.0.named t c e ok fits can all.0 h).0
 
 admitted : (ms : List Meaning) (t : Tables) (c : Cells) (e : Event)
     → Every (λ m. m.admits t c e ≡ true) ms → (k : ℕ) → get_or (admissions ms t c e) k true ≡ true
@@ -100,21 +117,22 @@ admitted (m ∷ ms) t c e all zero = all.0
 admitted (m ∷ ms) t c e all (suc k) = admitted ms t c e all.1 k
 
 module _ (ms : List Meaning) (law : Every Law ms) (t : Tables) (ok : Lawful t) where
-  ruled : (c : Cells) (e : Event) → Possible t c e → Ruled ms t c e (reply ms t c e)
-  ruled c e can =
-      subst (Ruled ms t c e) (sym (ap (λ o. reply_by o (ruling ms t c e) (listed c e)) can))
-      (go (ruling ms t c e) (said ms law t c e))
-    where
-      go : (v : Ruling) → Said ms t c e v → Ruled ms t c e (reply_by None v (listed c e))
-      go (Ok x) s = record {
-        refused_by = λ h. absurd (omega arith);
-        refused_if = λ k lt f. absurd (both_ways _ f (admitted ms t c e s k));
-      }
-      go (Err r) s = record { refused_by = λ h. s.0; refused_if = λ k lt f. s.1 }
-
   -- a state that the monitor can be in
   abbrev Good : Cells → Type 0
   Good c = Fits t c × Every (λ m. m.allowed t c) ms
+
+  ruled : (c : Cells) (e : Event) → Good c → Possible t c e → Ruled ms t c e (reply ms t c e)
+  ruled c e good can =
+      subst (Ruled ms t c e) (sym (ap (λ o. reply_by o (ruling ms t c e) (listed c e)) can))
+      (go (ruling ms t c e) (said ms t c e) (numbered ms law t c e ok good.0 can good.1))
+    where
+      go : (v : Ruling) → Said ms t c e v → Numbered v
+          → Ruled ms t c e (reply_by None v (listed c e))
+      go (Ok x) s n = record {
+        refused_by = λ h. absurd (omega arith);
+        refused_if = λ k lt f. absurd (both_ways _ f (admitted ms t c e s k));
+      }
+      go (Err r) s n = record { refused_by = λ h. s; refused_if = λ k lt f. n }
 
   kept : (ns : List Meaning) (c : Cells) (e : Event) → Fits t c → Possible t c e → Every Law ns
       → Every (λ m. m.allowed t c) ns → Every (λ m. m.admits t c e ≡ true) ns
@@ -133,24 +151,25 @@ module _ (ms : List Meaning) (law : Every Law ms) (t : Tables) (ok : Lawful t) w
       (λ h eh. good) (λ r can er. good)
       (λ can none. (
         next_fits t ok.formed c good.0 e can,
-        kept ms c e good.0 can law good.1 (subst (Said ms t c e) none (said ms law t c e)),
+        kept ms c e good.0 can law good.1 (subst (Said ms t c e) none (said ms t c e)),
       ))
 
   good_after : (es : List Event) (c : Cells) → Good c → Good (after ms t c es)
   good_after [] c good = good
   good_after (e ∷ es) c good = good_after es (step ms t c e) (good_step c e good)
 
-  ran_from : (es : List Event) (c : Cells) → Ran ms t c es (replies ms t c es) (after ms t c es)
-  ran_from [] c = done c
-  ran_from (e ∷ es) c =
+  ran_from : (es : List Event) (c : Cells) → Good c
+      → Ran ms t c es (replies ms t c es) (after ms t c es)
+  ran_from [] c good = done c
+  ran_from (e ∷ es) c good =
       by_way (impossibility t c e) (ruling ms t c e) (listed c e) c (next t c e)
       (λ a n. Ran ms t n es rs z → Ran ms t c (e ∷ es) (a ∷ rs) z)
       (λ h eh rest. impossible c z e es rs h eh rest)
       (λ r can er rest.
-      refused c z e es rs r can (subst (Said ms t c e) er (said ms law t c e)).0 rest)
+      refused c z e es rs r can good.1 (subst (Said ms t c e) er (said ms t c e)) rest)
       (λ can none rest.
-      admitted_by_all c z e es rs can (subst (Said ms t c e) none (said ms law t c e)) rest)
-      (ran_from es (step ms t c e))
+      admitted_by_all c z e es rs can good.1 (subst (Said ms t c e) none (said ms t c e)) rest)
+      (ran_from es (step ms t c e) (good_step c e good))
     where
       rs : List Answer
       rs = replies ms t (step ms t c e) es
@@ -190,19 +209,28 @@ module _ (ms : List Meaning) (law : Every Law ms) (t : Tables) (ok : Lawful t) w
   run_law es rs c er ec = record {
     answered = er;
     reached = ec;
-    ran = subst₂ (λ x y. Ran ms t blank es x y) (sym er) (sym ec) (ran_from es blank);
-    fits = subst (Fits t) (sym ec) good.0;
-    allowed = subst (λ x. Every (λ m. m.allowed t x) ms) (sym ec) good.1;
-    ruled = ruled c;
+    ran = subst₂ (λ x y. Ran ms t blank es x y) (sym er) (sym ec) (ran_from es blank start);
+    fits = fits;
+    authorised = by_relation t ok.formed c fits;
+    allowed = allowed;
+    separated = pile_apart ms t c fits allowed;
+    ruled = λ e. ruled c e (fits, allowed);
     counted =
         λ q. subst₂ (λ x y. sessions_using x.sessions q
         + (how_many (deactivation q) es y + how_many (closing q) es y)
         ≡ how_many (activation q) es y)
         (sym ec) (sym er) (count-after es blank q start ∙ from_none (none_using q));
+    again = subst₂ (GrantedAgain ms t es) (sym er) (sym ec) (granted_again ms t es);
   }
     where
       good : Good (after ms t blank es)
       good = good_after es blank start
+
+      fits : Fits t c
+      fits = subst (Fits t) (sym ec) good.0
+
+      allowed : Every (λ m. m.allowed t c) ms
+      allowed = subst (λ x. Every (λ m. m.allowed t x) ms) (sym ec) good.1
 
       from_none : {n m : ℕ} → n ≡ 0 → n + m ≡ m
       from_none e = omega arith

@@ -2,7 +2,7 @@
 --   Topmost    which rule of the pile refuses an event, and what it names
 --   Ruled      a possible event is refused exactly when some rule does not admit it
 --   Ran        a list of events, each not possible, refused by the topmost rule that does not admit
---              it, or admitted by all and done
+--              it, or admitted by all and done; each rule is consulted in a state that it allows
 use Rattle.std.specs.Prelude.{◌≡◌, ℕ, ◌+◌, ◌<◌, ◌≤◌, min, Bool, true, false, List, [], ◌∷◌, length, Some, Ok, Err, slice_index, slice_index_or}
 use Rattle.records.specs.declared.event.Event.{Event}
 use Rattle.policy.specs.declared.tables.Tables.{Tables}
@@ -56,9 +56,11 @@ pub data Ran (ms : List Meaning) (t : Tables)
       → impossibility t c e ≡ Some why
       → Ran ms t c es rs z → Ran ms t c (e ∷ es) (Err (Impossible why) ∷ rs) z
   refused : (c z : Cells) (e : Event) (es : List Event) (rs : List Answer) (r : Reason)
-      → Possible t c e → Topmost ms t c e r.number r.subject r.place
+      → Possible t c e → Every (λ m. m.allowed t c) ms
+      → Topmost ms t c e r.number r.subject r.place
       → Ran ms t c es rs z → Ran ms t c (e ∷ es) (Err (Refused r) ∷ rs) z
   admitted_by_all : (c z : Cells) (e : Event) (es : List Event) (rs : List Answer)
-      → Possible t c e → Every (λ m. m.admits t c e ≡ true) ms
+      → Possible t c e → Every (λ m. m.allowed t c) ms
+      → Every (λ m. m.admits t c e ≡ true) ms
       → Ran ms t (next t c e) es rs z
       → Ran ms t c (e ∷ es) (Ok (record { bits = listed c e }) ∷ rs) z

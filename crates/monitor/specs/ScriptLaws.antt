@@ -1,4 +1,5 @@
--- A script cut at a row, and one with rows to spare.
+-- A script cut at a row, and one with rows to spare. It proves, for the crates above, and assumes
+-- nothing.
 use Rattle.std.proofs.Common.{◌≡◌, ℕ, zero, suc, ◌+◌, ◌-◌, ◌≤◌, List, [], ◌∷◌, ◌++◌, length, drop, Ok, Err, sym, refl, ap, ◌∙◌, subst, arith}
 use Rattle.std.proofs.lemmas.List.{drop-drop, length-drop}
 use Rattle.records.specs.declared.event.Event.{Event}

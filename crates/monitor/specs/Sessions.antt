@@ -1,4 +1,5 @@
 -- What is active in a session, and in a list of them. Assumes nothing.
+--   is_open           a session is open
 --   active, owner     of a session; a closed one has no active role
 --   is_meant          is the session one of those that are meant
 --   active_where      the roles active in the session, where it is one of those that are meant
@@ -12,6 +13,10 @@ use Rattle.monitor.specs.declared.sessions.Session.{Session}
 use Rattle.monitor.specs.declared.sessions.Session.TheVariants.{Closed, Open}
 use Rattle.monitor.specs.declared.sessions.Whose.{Whose}
 use Rattle.monitor.specs.declared.sessions.Whose.TheVariants.{Anyone, User}
+
+abbrev pub is_open : Session → Bool
+is_open Closed = false
+is_open (Open user roles) = true
 
 abbrev pub active : Session → ℕ
 active Closed = 0

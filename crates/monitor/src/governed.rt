@@ -1,7 +1,8 @@
 // A state under its policy: what is authorised is what the assigned roles give by the hierarchy.
-ghost use Rattle.std.specs.Prelude.{◌≡◌, true, take};
+ghost use Rattle.std.specs.Prelude.{◌≡◌, ◌↔◌, true, take};
 ghost use Rattle.policy.specs.Approved.{tables_of};
-ghost use Rattle.monitor.specs.Authority.{authority_of, Gives, Stored, Ranged, Unused};
+ghost use Rattle.monitor.specs.Cells.{assigned_in};
+ghost use Rattle.monitor.specs.Authority.{authority_of, Gives, Stored, Ranged, EnabledWithin, OpenWithin};
 
 use crate::changes::Change;
 use crate::sessions::{Session, Whose, active_among, using_among};
@@ -19,7 +20,8 @@ pub struct GovernedState {
     pub(crate) state: State,
     ghost stored: { Stored (tables_of policy) state.cells },
     ghost ranged: { Ranged (tables_of policy) state.cells },
-    ghost unused: { Unused (tables_of policy) state.cells },
+    ghost enabled_within: { EnabledWithin (tables_of policy) state.cells },
+    ghost open_within: { OpenWithin (tables_of policy) state.cells },
 }
 
 /// The roles for which a set of assigned roles authorises.
@@ -28,6 +30,15 @@ pub fn authority(policy: &Approved, assigned: RoleSet) -> RoleSet
     ensures law { Gives (tables_of policy.now) assigned result }
 {
     policy.seniority().below(assigned)
+}
+
+// The roles assigned to some of the users.
+fn assigned_among(users: &[RoleSet; 64]) -> RoleSet
+    ensures { result ≡ record { bits = assigned_in users.now } }
+{
+    users
+        .iter()
+        .fold(RoleSet::empty(), |all, roles| roles.union(all))
 }
 
 impl GovernedState {
@@ -93,19 +104,23 @@ impl GovernedState {
         using_among(self.sessions(), role)
     }
 
+    /// The roles assigned to some user.
+    pub fn assigned_to_any(&self) -> RoleSet
+        ensures { result ≡ record { bits = assigned_in (governed.cells_of self.now).assigned } }
+    {
+        assigned_among(&self.state.cells.assigned)
+    }
+
     /// Whether the user is authorised for the role: assigned some role that is senior to it.
     pub fn is_authorised(&self, user: u8, role: u8) -> bool
         ensures answer { result ≡ is_authorised (governed.cells_of self.now) user role }
-        ensures assigned { result ≡ true
-            → Authorised (governed.tables_of self.now) (governed.cells_of self.now) user role }
-        ensures senior { Authorised (governed.tables_of self.now) (governed.cells_of self.now)
-            user role → result ≡ true }
+        ensures relation { (result ≡ true) ↔ Authorised (governed.tables_of self.now)
+            (governed.cells_of self.now) user role }
     {
         self.state.cells.authorised(user).contains(role)
     }
 
-    // Does a possible event: the state is copied out, changed and written back whole. Answers the
-    // roles that the event lists.
+    // Does a possible event: makes its change. Answers the roles that the event lists.
     pub(crate) fn grant(&mut self, event: Event, change: Change) -> RoleSet
         requires possible { Possible (governed.tables_of self.old)
             (governed.cells_of self.old) event }
@@ -116,9 +131,7 @@ impl GovernedState {
         ensures policy { governed.policy_of self.new ≡ governed.policy_of self.old }
     {
         let listed = self.state.cells.listed(event);
-        let mut state = self.state;
-        state.cells.apply(&self.policy, change);
-        self.state = state;
+        self.state.cells.apply(&self.policy, change);
         listed
     }
 }

@@ -1,10 +1,11 @@
 // The monitor: a checked policy, a state that fits it, and the pile that is asked about every
 // possible event.
-ghost use Rattle.std.specs.Prelude.{◌≡◌, [], ◌∷◌};
+ghost use Rattle.std.specs.Prelude.{◌≡◌, [], ◌∷◌, OnErr};
 ghost use Rattle.monitor.specs.RunLaw.{RunLaw};
 
 use crate::answers::Answer;
 use crate::governed::GovernedState;
+use crate::possible::PossibleEvent;
 use crate::rules::Rule;
 use policy::checked::Checked;
 use records::event::Event;
@@ -51,22 +52,32 @@ impl<P: Rule> Monitor<P> {
     }
 
     /// Decides an event: where it is possible and every rule admits it, it is done. The answer
-    /// holds the roles that the event lists.
+    /// holds the roles that the event lists. The rules are consulted with a copy of policy and
+    /// state, and the state is written back whole.
     ///
     /// # Errors
     ///
-    /// Why the event is refused; the state is then as it was.
+    /// Why the event is refused; the monitor is then as it was.
     pub fn decide(&mut self, event: Event) -> Answer
         ensures answer { result ≡ answer_to (P.rules (pile_of self.old)) (state_of self.old) event }
         ensures state { cells_of (state_of self.new)
             ≡ state_after (P.rules (pile_of self.old)) (state_of self.old) event }
         ensures same { SamePolicy self.old self.new }
+        ensures refused { OnErr result (self.new ≡ self.old) }
         ensures law { Extends (P.rules (pile_of self.old)) (state_of self.old) (event ∷ [])
             (result ∷ []) (cells_of (state_of self.new)) }
     {
-        let possible = self.governed.ask(event)?;
+        // What is possible is asked of what is lent, so that an impossible event copies nothing.
+        let change = self.governed.ask(event)?.change;
+        let mut copied = self.governed;
+        let possible = PossibleEvent {
+            governed: &copied,
+            event,
+            change,
+        };
         self.pile.consult(possible)?;
-        let change = possible.change;
-        Ok(self.governed.grant(event, change))
+        let listed = copied.grant(event, change);
+        self.governed.state = copied.state;
+        Ok(listed)
     }
 }

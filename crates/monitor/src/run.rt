@@ -67,9 +67,26 @@ fn fill_row<'a, P: Rule>(
     Ok(tail)
 }
 
-// Fills a row for each event, until something ends it: the run, from which `run` has its laws.
-fn fill<P: Rule>(monitor: &mut Monitor<P>, bytes: &[u8], rows: &mut [Row]) -> Outcome
-    ensures answer { result ≡ outcome (script_of bytes.now rows.old) }
+// How far a run has come: the rows filled, and the bytes that their events took.
+#[derive(Clone, Copy, Default)]
+struct Progress {
+    rows: usize,
+    bytes: usize,
+}
+
+// Fills a row for each event, until something ends it, and keeps count: the run, from which `run`
+// has its laws.
+fn fill<P: Rule>(
+    monitor: &mut Monitor<P>,
+    bytes: &[u8],
+    rows: &mut [Row],
+    progress: &mut Progress,
+) -> Result<Stop, Fault>
+    ensures answer { record {
+      rows = progress.new.rows;
+      bytes = progress.new.bytes;
+      end = result;
+    } ≡ outcome (script_of bytes.now rows.old) }
     ensures rows { rows.new
         ≡ rows_after (P.rules (pile_of monitor.old)) (state_of monitor.old) bytes.now rows.old }
     ensures state { cells_of (state_of monitor.new)
@@ -78,34 +95,24 @@ fn fill<P: Rule>(monitor: &mut Monitor<P>, bytes: &[u8], rows: &mut [Row]) -> Ou
 {
     let mut rest = bytes;
     for (filled, row) in rows.iter_mut().enumerate() {
-        let taken = bytes.len() - rest.len();
+        *progress = Progress {
+            rows: filled,
+            bytes: bytes.len() - rest.len(),
+        };
         if rest.is_empty() {
-            return Outcome {
-                rows: filled,
-                bytes: taken,
-                end: Ok(Stop::NoByteLeft),
-            };
+            return Ok(Stop::NoByteLeft);
         }
-        match fill_row(monitor, rest, taken, row) {
-            Ok(tail) => rest = tail,
-            Err(fault) => {
-                return Outcome {
-                    rows: filled,
-                    bytes: taken,
-                    end: Err(fault),
-                };
-            }
-        }
+        rest = fill_row(monitor, rest, progress.bytes, row)?;
     }
-    Outcome {
+    *progress = Progress {
         rows: rows.len(),
         bytes: bytes.len() - rest.len(),
-        end: Ok(if rest.is_empty() {
-            Stop::NoByteLeft
-        } else {
-            Stop::NoRowLeft
-        }),
-    }
+    };
+    Ok(if rest.is_empty() {
+        Stop::NoByteLeft
+    } else {
+        Stop::NoRowLeft
+    })
 }
 
 /// Decides each event of the bytes and writes its row, while there are rows. It ends when no byte
@@ -125,5 +132,11 @@ pub fn run<P: Rule>(monitor: &mut Monitor<P>, bytes: &[u8], rows: &mut [Row]) ->
         → Joins (P.rules (pile_of monitor.old)) (tables_of (state_of monitor.old))
         (cells_of (state_of monitor.old)) bytes.now (length rows.old) }
 {
-    fill(monitor, bytes, rows)
+    let mut progress = Progress::default();
+    let end = fill(monitor, bytes, rows, &mut progress);
+    Outcome {
+        rows: progress.rows,
+        bytes: progress.bytes,
+        end,
+    }
 }

@@ -1,7 +1,7 @@
 // A session, and what is active in sessions.
 ghost use Rattle.std.specs.Prelude.{◌≡◌, ◌≤◌, if◌then◌else◌, length, slice_set};
 ghost use Rattle.monitor.specs.Changes.{gained_by};
-ghost use Rattle.monitor.specs.Sessions.{active, owner, active_where, with_active};
+ghost use Rattle.monitor.specs.Sessions.{is_open, active, owner, active_where, with_active};
 ghost use Rattle.monitor.specs.Sessions.{active_in, sessions_using};
 
 use sets::RoleSet;
@@ -25,6 +25,13 @@ pub enum Whose {
 }
 
 impl Session {
+    /// Whether the session is open.
+    pub fn is_open(self) -> bool
+        ensures { result ≡ is_open self }
+    {
+        matches!(self, Session::Open { .. })
+    }
+
     /// The roles active in the session; a closed one has none.
     pub fn active(self) -> RoleSet
         ensures { result ≡ record { bits = active self } }

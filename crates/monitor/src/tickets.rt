@@ -1,5 +1,5 @@
 // Sessions by ticket: who opens one gets a ticket, and must close the session or leave it.
-ghost use Rattle.std.specs.Prelude.{◌≡◌, true, [], ◌∷◌};
+ghost use Rattle.std.specs.Prelude.{◌≡◌, true, [], ◌∷◌, OnErr};
 ghost use Rattle.records.specs.declared.event.Event.TheVariants as event;
 
 use crate::answers::Refusal;
@@ -72,6 +72,7 @@ impl<P: Rule> Monitor<P> {
             ≡ state_after (P.rules (pile_of self.old)) (state_of self.old)
             (event.Open session user) }
         ensures same { SamePolicy self.old self.new }
+        ensures refused { OnErr result (self.new ≡ self.old) }
         ensures law { Extends (P.rules (pile_of self.old)) (state_of self.old)
             (event.Open session user ∷ [])
             (answer_to (P.rules (pile_of self.old)) (state_of self.old)
@@ -98,6 +99,7 @@ impl<P: Rule> Monitor<P> {
             ≡ state_after (P.rules (pile_of self.old)) (state_of self.old)
             (event.Close (session_of ticket)) }
         ensures same { SamePolicy self.old self.new }
+        ensures refused { OnErr result (self.new ≡ self.old) }
         ensures law { Extends (P.rules (pile_of self.old)) (state_of self.old)
             (event.Close (session_of ticket) ∷ [])
             (answer_to (P.rules (pile_of self.old)) (state_of self.old)

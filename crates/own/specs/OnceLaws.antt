@@ -1,7 +1,8 @@
--- The rule `once_per_user` keeps its law. It proves, for the law of the rule, and assumes nothing.
+-- The rule `once_per_user` keeps the laws of a rule. It proves, for the law of the rule, and assumes
+-- nothing.
 -- A change keeps what the rule allows unless it makes the role active for a user who has it active
 -- already, and that one the rule does not admit.
-use Rattle.std.proofs.Common.{◌≡◌, ℕ, true, false, not, ◌&&◌, sym, refl, ap, ◌∙◌, inl, inr}
+use Rattle.std.proofs.Common.{◌≡◌, ℕ, true, false, not, ◌&&◌, sym, refl, ap, ◌∙◌, subst, inl, inr, arith}
 use Rattle.std.proofs.lemmas.Bool.{both_ways, cases_Bool, and_from, not-true, not_from_false}
 use Rattle.sets.specs.Sets.{has}
 use Rattle.records.specs.declared.event.Event.{Event}
@@ -18,11 +19,12 @@ use Rattle.monitor.specs.Authority.{Fits}
 use Rattle.monitor.specs.Cells.{session_at, is_active, is_active_for, blank}
 use Rattle.monitor.specs.ChangeLaws.{MayChange, gained-has, none_has, possible_may}
 use Rattle.monitor.specs.Changes.{applied, change_of, gained, next}
+use Rattle.monitor.specs.Meaning.{Law}
 use Rattle.monitor.specs.NewStateLaws.{all_closed}
 use Rattle.monitor.specs.Possible.{Possible}
 use Rattle.monitor.specs.SessionLaws.{active-counted, meant_is_owner, owner_is_meant, where_parts}
 use Rattle.monitor.specs.Sessions.{active, active_where, is_meant, owner}
-use Rattle.own.specs.Once.{Once, gainer}
+use Rattle.own.specs.Once.{Once, gainer, admitted, once_per_user}
 
 -- in a new state no role is active
 pub blank_once : (q : ℕ) → Once q blank
@@ -99,3 +101,12 @@ module _ (t : Tables) (w : WellFormed t) (c : Cells) (fits : Fits t c) (q : ℕ)
   next_once e can once free =
       let d = change_of c e in
       change_once d (possible_may t w c fits e can) (spared d free) once
+
+pub once_law : (q : ℕ) → Law (once_per_user q)
+once_law q = record {
+  fresh = λ t law. blank_once q;
+  keeps = λ t c e law fits can once admits.
+      next_once t law.formed c fits q e can once
+      (λ s y is. subst (λ d. admitted q c d ≡ true) is admits);
+  named = λ t c e law fits can once no. (omega arith, omega arith);
+}

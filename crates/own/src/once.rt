@@ -1,10 +1,10 @@
 // A role that a user never has active in two sessions at once.
-ghost use Rattle.std.specs.Prelude.{◌≡◌, true};
-ghost use Rattle.own.specs.Once.{once_per_user, admitted};
-ghost use Rattle.std.proofs.Common.{arith, subst};
-ghost use Rattle.own.specs.OnceLaws.{blank_once, next_once};
+ghost use Rattle.std.specs.Prelude.{[], ◌∷◌};
+ghost use Rattle.own.specs.Once.{once_per_user};
+ghost use Rattle.own.specs.OnceLaws.{once_law};
+ghost use Rattle.std.proofs.Common.{arith, rules};
 
-use monitor::{Change, Objection, OwnRule, PossibleEvent, Whose};
+use monitor::{Change, OwnRule, PossibleEvent, Reason, Rule, Whose};
 use policy::asking::check;
 
 /// The rule that a user never has the role active in two sessions at once. It names the number 100
@@ -14,21 +14,14 @@ pub struct OncePerUser {
     pub role: u8,
 }
 
-impl OwnRule for OncePerUser {
-    ghost meaning = { λ x. once_per_user x.role };
+impl Rule for OncePerUser {
+    ghost rules = { λ x. once_per_user x.role ∷ [] };
 
-    ghost lawful = { λ x.
-        record {
-          fresh = λ t law. blank_once x.role;
-          keeps = λ t c e law fits can once admits.
-              next_once t law.formed c fits x.role e can once
-              (λ s y is. subst (λ d. admitted x.role c d ≡ true) is admits);
-          named = λ t c e. (omega arith, omega arith);
-        } };
+    ghost some = { Prim.search rules };
 
-    ghost confined = { λ x t c e. (omega arith, omega arith) };
+    ghost lawful = { λ x. (once_law x.role, tt) };
 
-    fn object(&self, possible: PossibleEvent) -> Result<(), Objection> {
+    fn consult(&self, possible: PossibleEvent) -> Result<(), Reason> {
         match possible.change {
             Change::Seated { to, .. } => {
                 let owner = to.owner();
@@ -37,15 +30,17 @@ impl OwnRule for OncePerUser {
                         .governed
                         .active_in(Whose::User { user: owner })
                         .contains(self.role);
-                check(
-                    !twice,
-                    Objection {
-                        number: 100,
-                        subject: owner,
-                    },
-                )
+                check(!twice, Reason::at_top(100, owner))
             }
             _ => Ok(()),
         }
     }
+
+    fn places(&self) -> u8 {
+        1
+    }
+}
+
+impl OwnRule for OncePerUser {
+    ghost confined = { λ x. (λ t c e law fits can allowed no. (omega arith, omega arith), tt) };
 }

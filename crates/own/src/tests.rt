@@ -1,32 +1,37 @@
 // How many places there are in piles of 1, 2, 16, 64, 128 and 256 rules.
-ghost use Rattle.std.specs.Prelude.{replicate};
+ghost use Rattle.std.specs.Prelude.{[], ◌∷◌, replicate};
 ghost use Rattle.own.specs.Lenient.{lenient};
 ghost use Rattle.std.proofs.Common.{rules};
 
-use crate::piles::{Fourfold, One, Sixteen, Two, Twofold};
-use monitor::{Objection, Own, OwnRule, PossibleEvent, Reason, Rule};
+use crate::once::OncePerUser;
+use crate::piles::{Fourfold, Sixteen, Two, Twofold};
+use monitor::{PossibleEvent, Reason, Rule};
 use std::process::Abort;
 
 // A rule that admits every event, and holds nothing.
 #[derive(Clone, Copy, Default)]
 struct Lenient {}
 
-impl OwnRule for Lenient {
-    ghost meaning = { λ _. lenient };
+impl Rule for Lenient {
+    ghost rules = { λ _. lenient ∷ [] };
+
+    ghost some = { Prim.search rules };
 
     ghost lawful = { Prim.search rules };
 
-    ghost confined = { Prim.search rules };
-
-    fn object(&self, possible: PossibleEvent) -> Result<(), Objection> {
+    fn consult(&self, possible: PossibleEvent) -> Result<(), Reason> {
         Ok(())
+    }
+
+    fn places(&self) -> u8 {
+        1
     }
 }
 
 // Sixteen of them under one name.
 #[derive(Default, Drop)]
 struct SixteenLenient {
-    pile: Fourfold<Fourfold<Own<Lenient>>>,
+    pile: Fourfold<Fourfold<Lenient>>,
 }
 
 impl Rule for SixteenLenient {
@@ -52,7 +57,7 @@ fn has_places<P: Default + Rule + Drop>(rt: &impl Abort, places: u8) {
 
 #[test]
 fn places_up_to_16(rt: HostRuntime) {
-    has_places::<One>(&rt, 1);
+    has_places::<OncePerUser>(&rt, 1);
     has_places::<Two>(&rt, 2);
     has_places::<Sixteen>(&rt, 16);
 }

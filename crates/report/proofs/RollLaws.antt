@@ -10,22 +10,23 @@ use Rattle.policy.specs.declared.tables.Tables.{Tables}
 use Rattle.policy.specs.declared.verdict.Failure.TheVariants.{Cycle, SelfConflict, UninheritedConflict, BothConflicts, UninheritedUserConflict}
 use Rattle.policy.specs.Questions.{Passes, Vetted}
 use Rattle.policy.specs.Reading.{reading, draft_of}
+use Rattle.policy.specs.Search.{verdict}
 use Rattle.policy.specs.Verdicts.{Verdict, number_of}
 use Rattle.policy.specs.WellFormed.{WellFormed}
 use Rattle.policy.specs.ReadingLaws.{reading_well_formed}
 use Rattle.policy.specs.VerdictLaws.{verdict_right}
+use Rattle.monitor.specs.Apart.{SeparatesAt}
 use Rattle.monitor.specs.declared.states.Cells.{Cells}
 use Rattle.monitor.specs.Cells.{blank}
 use Rattle.monitor.specs.History.{replies, after}
 use Rattle.monitor.specs.Meaning.{Meaning, Every, Law}
 use Rattle.monitor.specs.RunLaws.{run_law}
-use Rattle.families.specs.House.{house_rules}
-use Rattle.families.specs.HouseLaws.{house-apart}
 use Rattle.report.specs.declared.judging.Judged.{Judged}
 use Rattle.report.specs.Judging.{judgement_of, held_after}
-use Rattle.report.specs.RollLaw.{RollLaw, HouseRollLaw}
+use Rattle.report.specs.RollLaw.{RollLaw, ApartRollLaw}
 use Rattle.report.specs.declared.line.PolicyLine.{PolicyLine}
-use Rattle.report.specs.Texts.{policy_line, policy_text, first_line}
+use Rattle.report.specs.Texts.{policy_line, policy_text, first_line, verdict_line}
+use Rattle.report.specs.VerdictLaw.{VerdictLaw}
 use Rattle.report.specs.Roll.{whole_script, events_text, events_part, roll_text}
 use Rattle.report.proofs.EventLines.{tail_is}
 
@@ -61,7 +62,15 @@ events_part-events ms bytes (Ok p) held j e ev =
     ∙ sym (ap (λ (v : Verdict). events_text ms (if is_ok v then p.0 else held) blank
     (drop j.bytes bytes)) is)
 
+-- where no question has a witness, the right verdict is that the policy passes
+no_witness : (t : Tables) (v : Verdict) → Vetted t v → Passes t → v ≡ Ok tt
+no_witness t (Ok u) right passes = refl
+no_witness t (Err f) right passes = absurd (passes f right.0)
+
 module _ (ms : List Meaning) (bytes : List ℕ) where
+  well_formed : (t : Tables) (n : ℕ) → reading bytes ≡ Ok (t, n) → WellFormed t
+  well_formed t n er = subst (λ r. WellFormed (draft_of r)) er (reading_well_formed bytes)
+
   short : length bytes ≤ 65536 → first_line (judgement_of (reading bytes))
       ++ events_part ms (reading bytes) bytes ≡ roll_text ms bytes
   short l = sym (cond-false (ltb 65536 (length bytes)) (codes "input 9\n")
@@ -108,26 +117,41 @@ module _ (ms : List Meaning) (bytes : List ℕ) where
       ∙ ap (λ x. first_line judged ++ events_text x (approved.tables_of q) c events)
       (ap rules same ∙ sym em))
 
-  -- the law over whole runs follows from the text alone
+  -- the text of a policy that was read, by the verdict on it
+  with_verdict : (text : List ℕ) (t : Tables) (n : ℕ) (v : Verdict) → length bytes ≤ 65536
+      → reading bytes ≡ Ok (t, n) → verdict t ≡ v → text ≡ roll_text ms bytes
+      → text ≡ verdict_line n v
+      ++ (if is_ok v then events_text ms t blank (drop n bytes) else [])
+  with_verdict text t n v l er ev e =
+      e ∙ sym (short l) ∙ ap (λ r. first_line (judgement_of r) ++ events_part ms r bytes) er
+      ∙ ap (λ (w : Verdict). verdict_line n w
+      ++ (if is_ok w then events_text ms t blank (drop n bytes) else [])) ev
+
+  -- the laws follow from the text alone
+
+  pub verdict_law : (text : List ℕ) → text ≡ roll_text ms bytes → VerdictLaw bytes text
+  verdict_law text e t n l er = record {
+    verdict = verdict t;
+    right = verdict_right t (well_formed t n er);
+    more = if is_ok (verdict t) then events_text ms t blank (drop n bytes) else [];
+    printed = with_verdict text t n (verdict t) l er refl e;
+    alone = λ f ef. ap (λ (v : Verdict).
+        if is_ok v then events_text ms t blank (drop n bytes) else []) ef;
+  }
+
   pub roll_law : (text : List ℕ) → Every Law ms → text ≡ roll_text ms bytes → RollLaw ms bytes text
-  roll_law text law e t n l er ev = record {
+  roll_law text law e t n l er passes = record {
     answers = replies ms t blank (whole_script (drop n bytes)).events;
     state = after ms t blank (whole_script (drop n bytes)).events;
-    printed = e ∙ sym (short l) ∙ ap (λ r. first_line (judgement_of r) ++ events_part ms r bytes) er
-        ∙ ap (λ (v : Verdict). first_line (judgement_of (Ok (t, n)))
-        ++ (if is_ok v then events_text ms t blank (drop n bytes) else [])) ev;
-    run_law = run_law ms law t (record { formed = formed; passes = passes })
+    printed = with_verdict text t n (Ok tt) l er
+        (no_witness t (verdict t) (verdict_right t (well_formed t n er)) passes) e;
+    run_law = run_law ms law t (record { formed = well_formed t n er; passes = passes })
         (whole_script (drop n bytes)).events _ _ refl refl;
   }
-    where
-      formed : WellFormed t
-      formed = subst (λ r. WellFormed (draft_of r)) er (reading_well_formed bytes)
 
-      passes : Passes t
-      passes = subst (Vetted t) ev (verdict_right t formed)
-
-pub house_roll_law : (bytes text : List ℕ) → RollLaw house_rules bytes text
-    → HouseRollLaw bytes text
-house_roll_law bytes text law t n l er ev =
-    let roll = law t n l er ev in
-    record { roll = roll; apart = house-apart t roll.state roll.run_law.allowed }
+-- separation stands in the pile, at the index k
+pub apart_roll_law : (ms : List Meaning) (k : ℕ) → ((t : Tables) → SeparatesAt ms k t)
+    → (bytes text : List ℕ) → RollLaw ms bytes text → ApartRollLaw ms bytes text
+apart_roll_law ms k separates bytes text law t n l er passes =
+    let roll = law t n l er passes in
+    record { roll = roll; apart = roll.run_law.separated k (separates t) }

@@ -1,12 +1,13 @@
 -- The text of each line of the roll. Assumes nothing.
 --   policy_line, policy_text       what the first line says of a judgement, and its text
 --   judgement_text, first_line     of a judgement, the text and the line
+--   verdict_line                   the line of a policy of n bytes with this verdict
 --   row_text                       of a row, after its index
 --   end_line, end_text             what the last line says of an outcome, and its text
 use Rattle.std.specs.Prelude.{ℕ, List, [], ◌∷◌, ◌++◌, Ok, Err, Result, codes, decimal, slice_index}
 use Rattle.records.specs.declared.fault.Fault.{Fault}
 use Rattle.records.specs.Faults as faults
-use Rattle.policy.specs.Verdicts.{number_of, names_of}
+use Rattle.policy.specs.Verdicts.{Verdict, number_of, names_of}
 use Rattle.monitor.specs.declared.rows.Row.{Row}
 use Rattle.monitor.specs.declared.run.Outcome.{Outcome}
 use Rattle.monitor.specs.Scripts.{end_number}
@@ -43,6 +44,9 @@ judgement_text judged =
 
 abbrev pub first_line : Result Judged Fault → List ℕ
 first_line judged = judgement_text judged ++ codes "\n"
+
+abbrev pub verdict_line : ℕ → Verdict → List ℕ
+verdict_line n v = first_line (Ok (record { bytes = n; verdict = v }))
 
 -- index, kind, number, subject, place, roles
 abbrev pub row_text : ℕ → Row → List ℕ

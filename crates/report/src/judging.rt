@@ -1,8 +1,8 @@
 // A policy read and judged.
-ghost use Rattle.std.specs.Prelude.{◌≡◌, ◌≤◌, length, IfOk};
+ghost use Rattle.std.specs.Prelude.{◌≡◌, ◌≤◌, true, length, IfOk};
 ghost use Rattle.policy.specs.Approved.{tables_of, policy_of};
 ghost use Rattle.policy.specs.Reading.{reading};
-ghost use Rattle.report.specs.Judging.{judgement_of, held_after, IsRightJudgement};
+ghost use Rattle.report.specs.Judging.{judgement_of, held_after, is_refused, IsRightJudgement};
 
 use policy::{Checked, Draft, Verdict};
 use records::Fault;
@@ -27,6 +27,7 @@ pub fn read_and_check(held: &mut Checked, bytes: &[u8]) -> Result<Judged, Fault>
     ensures within { IfOk result (λ j. j.bytes ≤ length bytes.now) }
     ensures policy { tables_of (policy_of held.new)
         ≡ held_after (reading bytes.now) (tables_of (policy_of held.old)) }
+    ensures refused { is_refused result ≡ true → held.new ≡ held.old }
 {
     let mut draft = Draft::bare();
     let bytes = draft.read(bytes)?;

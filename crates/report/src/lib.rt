@@ -8,4 +8,4 @@ pub mod rolls;
 
 pub use judging::{Judged, read_and_check};
 pub use line::{EndLine, PolicyLine, RowLine};
-pub use rolls::{roll, roll_by};
+pub use rolls::{roll, roll_by, roll_with_own_above, roll_with_own_below};

@@ -8,6 +8,7 @@ returns c =
       answer = is.answer;
       state = is.state;
       same = is.same;
+      refused = is.refused;
       law = is.law;
       apart = λ es rs past.
           house-apart c.args.monitor.now.governed.policy.draft.tables

@@ -2,7 +2,7 @@ use Rattle.std.proofs.Common.{string_bytes, refl}
 use Rattle.monitor.specs.Governed.{policy_of, cells_of}
 use Rattle.monitor.specs.Monitors.{state_of, pile_of}
 use Rattle.policy.specs.Approved as approved
-use Rattle.report.proofs.RollLaws.{roll_written, roll_law}
+use Rattle.report.proofs.RollLaws.{roll_written, roll_law, verdict_law}
 use Rattle.report.proofs.rolls.roll_by.Goals as goal
 
 pub returns-clause-text : goal.returns-clause-text
@@ -22,3 +22,7 @@ returns-clause-text g c =
 pub returns-clause-law : goal.returns-clause-law
 returns-clause-law g c = roll_law (g.P.Rule.rules c.args.pile) c.args.bytes.now _
     (g.met.P.Rule.lawful c.args.pile) (returns-clause-text g c)
+
+pub returns-clause-verdict : goal.returns-clause-verdict
+returns-clause-verdict g c = verdict_law (g.P.Rule.rules c.args.pile) c.args.bytes.now _
+    (returns-clause-text g c)

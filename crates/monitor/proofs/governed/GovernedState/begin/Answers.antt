@@ -7,4 +7,9 @@ pub invariant_of-result : goal.invariant_of-result
 invariant_of-result c =
     let t = c.into_policy.result.draft.tables in
     let fits = subst (Fits t) (sym c.new.ensures) (blank-fits t) in
-    record { stored = fits.stored; ranged = fits.ranged; unused = fits.unused }
+    record {
+      stored = fits.stored;
+      ranged = fits.ranged;
+      enabled_within = fits.enabled_within;
+      open_within = fits.open_within;
+    }

@@ -3,21 +3,11 @@ use Rattle.monitor.specs.Changes.{applied}
 use Rattle.monitor.specs.GovernedLaws.{moved_fits}
 use Rattle.monitor.proofs.governed.GovernedState.grant.Goals as goal
 
-pub invariant_of-state : goal.invariant_of-state
-invariant_of-state c =
-    let g = c.args.self.now in
-    let fits = moved_fits g c.args.event _ (sym c.requires.possible)
-    (c.apply.ensures ∙ ap (applied g.policy.draft.tables g.state.cells) c.requires.change) in
-    record {
-      wide = fits.sound.wide;
-      owned = fits.sound.owned;
-      live = fits.sound.live;
-      entitled = fits.sound.entitled;
-    }
-
 pub invariant_of-self : goal.invariant_of-self
 invariant_of-self c =
     let g = c.args.self.now in
     let fits = moved_fits g c.args.event _ (sym c.requires.possible)
-    (c.apply.ensures ∙ ap (applied g.policy.draft.tables g.state.cells) c.requires.change) in
-    record { stored = fits.stored; ranged = fits.ranged; unused = fits.unused }
+    (c.apply.ensures ∙ ap (applied g.policy.draft.tables g.state.cells) c.requires.change) in (
+      (fits.sound.wide, (fits.sound.owned, (fits.sound.live, (fits.sound.entitled, tt)))),
+      (fits.stored, (fits.ranged, (fits.enabled_within, (fits.open_within, tt)))),
+    )

@@ -14,10 +14,10 @@ returns c =
     c.contains.ensures ∙ ap (λ (s : RoleSet). has s.bits c.args.role) c.authorised.ensures in
     record {
       answer = is;
-      assigned =
-          λ h. stored_relation t (governed_formed g) g.state.cells (governed_fits g) c.args.user
-          c.args.role (sym is ∙ h);
-      senior =
-          λ a. is ∙ relation_stored t (governed_formed g) g.state.cells (governed_fits g)
-          c.args.user c.args.role a;
+      relation = (
+        λ h. stored_relation t (governed_formed g) g.state.cells (governed_fits g) c.args.user
+            c.args.role (sym is ∙ h),
+        λ a. is ∙ relation_stored t (governed_formed g) g.state.cells (governed_fits g) c.args.user
+            c.args.role a,
+      );
     }

@@ -1,0 +1,3 @@
+pub mod DayLaws
+pub mod DeskLaws
+pub mod TicketLaws

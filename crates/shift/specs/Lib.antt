@@ -1,0 +1,3 @@
+pub mod Desks
+pub mod Tickets
+pub mod Day
