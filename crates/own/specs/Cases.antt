@@ -1,5 +1,5 @@
--- The worked cases of the two rules: what piles with the first rule on two activations, and what the
--- second rules on three events. Assumes nothing.
+-- The worked cases of the two rules: what piles with the first rule on two activations, and what
+-- the second rules on three events. Assumes nothing.
 use Rattle.std.specs.Prelude.{◌≡◌, ℕ, List, [], ◌∷◌, ◌++◌, replicate, Ok, Err}
 use Rattle.records.specs.declared.event.Event.{Event}
 use Rattle.records.specs.declared.event.Event.TheVariants.{Open, Close, Activate}

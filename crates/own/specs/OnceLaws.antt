@@ -1,5 +1,5 @@
--- The rule `once_per_user` keeps the laws of a rule. It proves, for the law of the rule, and assumes
--- nothing.
+-- The rule `once_per_user` keeps the laws of a rule. It proves, for the law of the rule, and
+-- assumes nothing.
 -- A change keeps what the rule allows unless it makes the role active for a user who has it active
 -- already, and that one the rule does not admit.
 use Rattle.std.proofs.Common.{◌≡◌, ℕ, true, false, not, ◌&&◌, sym, refl, ap, ◌∙◌, subst, inl, inr, arith}

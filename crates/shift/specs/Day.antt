@@ -10,14 +10,21 @@
 --   late_events       those of the evening, and session 1 opened by user 1, and closed again where
 --                     that is granted
 --   morning_events    those of the next morning: session 1 opened by user 1, and closed
+--   restart_row       what a room that has decided a journal would answer the opening of session 1
 use Rattle.std.specs.Prelude.{if◌then◌else◌, Bool, List, [], ◌∷◌, ◌++◌}
 use Rattle.records.specs.declared.event.Event.{Event}
 use Rattle.records.specs.declared.event.Event.TheVariants.{Assign, Enable, Open, Close, Activate}
+use Rattle.policy.specs.declared.tables.Tables.{Tables}
+use Rattle.policy.specs.Reading.{reading, draft_of}
+use Rattle.policy.specs.Worked as worked
 use Rattle.monitor.specs.Answers.{Answer}
+use Rattle.monitor.specs.declared.rows.Row.{Row}
 use Rattle.monitor.specs.Counts.{granted}
 use Rattle.monitor.specs.declared.governed.GovernedState.{GovernedState}
 use Rattle.monitor.specs.Governed.{tables_of, state_after_all}
-use Rattle.monitor.specs.History.{reply}
+use Rattle.monitor.specs.Cells.{blank}
+use Rattle.monitor.specs.History.{reply, after}
+use Rattle.monitor.specs.Rows.{row_of}
 use Rattle.families.specs.House.{house_rules}
 use Rattle.shift.specs.Tickets.{both_closings, moving}
 
@@ -62,3 +69,9 @@ late_events g =
 
 abbrev pub morning_events : List Event
 morning_events = Open 1 1 ∷ Close 1 ∷ []
+
+-- under the sample policy, from the new state on; the row of what would be answered
+abbrev pub restart_row : List Event → Row
+restart_row journal =
+    let t : Tables = draft_of (reading worked.sample) in
+    row_of (Open 1 1) (reply house_rules t (after house_rules t blank journal) (Open 1 1))

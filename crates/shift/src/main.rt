@@ -1,6 +1,7 @@
 // A shift in the transfer rooms: two sessions opened by ticket, worked in, closed in the order that
 // their roles allow, and one left open for the night. The next morning a new monitor decides the
-// journal of that day again and goes on. Prints a row for each event.
+// journal of that day again and goes on. Prints a row for each event, and at last what opening the
+// session would be answered after a restart.
 #![tactic(auto)]
 
 mod desk;
@@ -10,9 +11,11 @@ ghost use Rattle.policy.specs.Approved.{tables_of, policy_of};
 ghost use Rattle.policy.specs.Reading.{reading, draft_of};
 ghost use Rattle.policy.specs.Worked as worked;
 ghost use Rattle.shift.specs.Desks.{state_on, Asked};
-ghost use Rattle.shift.specs.Day.{work_events, late_events, morning_events};
+ghost use Rattle.shift.specs.Day.{work_events, late_events, morning_events, restart_row};
 
 use desk::Desk;
+use families::house::house;
+use monitor::{Monitor, Row};
 use policy::worked::worked_policies;
 use policy::{Checked, Draft};
 use records::Event;
@@ -83,6 +86,18 @@ fn go_on(desk: &mut Desk)
     desk.ask(Event::Close { session: 1 });
 }
 
+// What opening session 1 would be answered by a room that comes back from the journal.
+fn after_restart(journal: &[Event]) -> Row
+    ensures { result ≡ restart_row journal.now }
+{
+    let room = Monitor::resume(sample(), house(), journal);
+    let opening = Event::Open {
+        session: 1,
+        user: 1,
+    };
+    Row::of(opening, room.judge(opening))
+}
+
 fn print_rows(rt: &HostRuntime, desk: &Desk) -> anyhow::Result<()> {
     for (index, row) in desk.rows.iter().enumerate() {
         let line = RowLine { index, row: *row };
@@ -99,5 +114,12 @@ fn main(rt: HostRuntime) -> anyhow::Result<()> {
     println!(rt; "the next morning")?;
     let mut desk = Desk::resume(rt.alloc(), sample(), desk.journal)?;
     go_on(&mut desk);
-    print_rows(&rt, &desk)
+    print_rows(&rt, &desk)?;
+    println!(rt; "after a restart")?;
+    let line = RowLine {
+        index: 0,
+        row: after_restart(&desk.journal),
+    };
+    println!(rt; "{line}")?;
+    Ok(())
 }
