@@ -1,12 +1,13 @@
 -- What a table says after one more record, by the shape of the table. Assumes nothing.
-use Rattle.std.proofs.Common.{◌≡◌, ℕ, zero, suc, ◌<◌, Bool, true, false, ◌&&◌, ◌⊎◌, ◌↔◌, eqb, List, [], ◌∷◌, length, get_or, set, Contains, Some, None, Option, sym, ap, ◌∙◌, inl, inr, ⊎_elim, arith}
+use Rattle.std.proofs.Common.{◌≡◌, ℕ, zero, suc, ◌<◌, Bool, true, false, ◌&&◌, ◌⊎◌, ◌↔◌, eqb, List, [], ◌∷◌, length, get_or, set, Contains, Some, None, Option, sym, ap, ◌∙◌, subst, inl, inr, ⊎_elim, arith}
 use Rattle.std.proofs.lemmas.List.{length-set, get_or-set_same, get_or-set_other}
 use Rattle.std.proofs.lemmas.Bool.{eqb-true, eq-eqb, both_ways, cases_eq, and_parts, and_from, or_cases, or_left, or_right}
 use Rattle.records.specs.declared.entry.Entry.{Entry}
-use Rattle.sets.specs.Aliases.{RoleSet}
-use Rattle.policy.specs.Entries.{holds}
+use Rattle.sets.specs.Aliases.{RoleSet, UserSet}
+use Rattle.policy.specs.Entries.{holds, holds_user}
 use Rattle.policy.specs.Recorded.{Says, SaysEitherWay, SaysLimit}
 use Rattle.policy.specs.RowLaws.{more, both, more_member}
+use Rattle.policy.specs.Updates.{with_users}
 
 -- a record among one more
 
@@ -134,6 +135,32 @@ module _ (w : ℕ) (rows : List RoleSet) (a b : ℕ) where
           ]
         ])),
       )
+
+-- one more pair of users of a role, in a table of such pairs for each role
+
+abbrev pub SaysUsers : List (List UserSet) → List Entry → (ℕ → ℕ → ℕ → Entry) → ℕ → Type 0
+SaysUsers rows xs entry q = SaysEitherWay (holds_user rows q) xs (entry q)
+
+pub users_more : (rows : List (List UserSet)) (r u v : ℕ) (xs : List Entry)
+    (entry : ℕ → ℕ → ℕ → Entry)
+    → ((q a b : ℕ) → entry r u v ≡ entry q a b → (q ≡ r) × Are a b u v)
+    → r < length rows → length (get_or rows r []) ≡ 64 → u < 64 → v < 64
+    → ((q : ℕ) → SaysUsers rows xs entry q) → (q : ℕ)
+    → SaysUsers (with_users rows r u v) (entry r u v ∷ xs) entry q
+users_more rows r u v xs entry inj lr wide lu lv says q = elim (cases_eq q r) [
+  | inl e ↦ subst (SaysUsers (with_users rows r u v) (entry r u v ∷ xs) entry) (sym e)
+      (subst (λ row. SaysEitherWay (holds row) (entry r u v ∷ xs) (entry r))
+      (sym (get_or-set_same rows r new [] lr))
+      (either_more 64 (get_or rows r []) u v xs (entry r) (λ a b e. (inj r a b e).1)
+      (omega arith) (omega arith) lu lv (says r)))
+  | inr ne ↦ subst (λ row. SaysEitherWay (holds row) (entry r u v ∷ xs) (entry q))
+      (sym (get_or-set_other rows r q new [] ne))
+      (either_still (entry r u v) xs (entry q) (λ a b e. ne (inj q a b e).0)
+      (holds_user rows q) (says q))
+]
+  where
+    new : List UserSet
+    new = both 64 (get_or rows r []) u v
 
 -- a limit of a subject that had none
 

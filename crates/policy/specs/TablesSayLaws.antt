@@ -12,10 +12,10 @@ use Rattle.policy.specs.Entries.{no_roles, no_users, holds, inherits, ssd_pair, 
 use Rattle.policy.specs.Limits.{limit_of_users, limit_of_roles, limit_of_active, limit_of_sessions}
 use Rattle.policy.specs.Reading.{is_sizes, in_range, is_unlimited, with_entry}
 use Rattle.policy.specs.Recorded.{Says, SaysEitherWay, SaysLimit, TablesSay}
-use Rattle.policy.specs.RowLaws.{both, no_member, replicate_each, set_each}
+use Rattle.policy.specs.RowLaws.{no_member, replicate_each, set_each}
 use Rattle.policy.specs.Updates.{only, with_role}
-use Rattle.policy.specs.WellFormed.{WellFormed}
-use Rattle.policy.specs.SaysLaws.{says_still, either_still, limit_still, says_more, either_more, limit_more, says_nothing, either_nothing, limit_nothing}
+use Rattle.policy.specs.WellFormed.{UserPairs, WellFormed}
+use Rattle.policy.specs.SaysLaws.{says_still, either_still, limit_still, says_more, either_more, users_more, limit_more, says_nothing, either_nothing, limit_nothing}
 
 -- every table that well formed tables do not speak of has an entry for each number
 abbrev pub Long : Tables → Type 0
@@ -35,6 +35,17 @@ few a b n most l e =
     let p = and_parts (ltb a n) (ltb b n) e in
     let x = ltb-true a n p.0 in
     let y = ltb-true b n p.1 in (omega arith, omega arith)
+
+-- a pair of users in range has its place in a table of such pairs
+listed : {s : Counts} {rows : List (List UserSet)} → s.roles ≤ 32 → s.users ≤ 64
+    → UserPairs s rows → (r u v : ℕ) → (ltb r s.roles && (ltb u s.users && ltb v s.users)) ≡ true
+    → (r < length rows) × (length (get_or rows r []) ≡ 64) × (u < 64) × (v < 64)
+listed {s} {rows} lr lu pairs r u v e =
+    let p = and_parts (ltb r s.roles) (ltb u s.users && ltb v s.users) e in
+    let a = ltb-true r s.roles p.0 in
+    let low : r < 32 = omega arith in
+    let wide = pairs.wide.0 in
+    let f = few u v s.users 64 lu p.1 in (omega arith, pairs.wide.1 r low, f.0, f.1)
 
 unset : (o : Option ℕ) → not (is_some o) ≡ true → o ≡ None
 unset None e = refl
@@ -83,44 +94,10 @@ module _ (t : Tables) (w : WellFormed t) (l : Long t) (xs : List Entry) (h : Tab
   users_after : (x : Entry) → is_sizes x ≡ false → in_range t.sizes x ≡ true → (q : ℕ)
       → SaysEitherWay (users_pair (with_entry t x) q) (x ∷ xs) (ConflictingUsers q)
   users_after (Sizes u r n) z i q = cc
-  users_after (ConflictingUsers r u v) z i q = elim (cases_eq q r) [
-    | inl e ↦ subst at (sym e)
-        (subst (λ row. SaysEitherWay (holds row) (x ∷ xs) (ConflictingUsers r))
-        (sym (get_or-set_same rows r new [] there)) here)
-    | inr ne ↦ subst (λ row. SaysEitherWay (holds row) (x ∷ xs) (ConflictingUsers q))
-        (sym (get_or-set_other rows r q new [] ne))
-        (either_still x xs (ConflictingUsers q) (λ a b e. ne (cc)) (users_pair t q) (h.users q))
-  ]
-    where
-      x : Entry
-      x = ConflictingUsers r u v
-
-      at : ℕ → Type 0
-      at j = SaysEitherWay (users_pair (with_entry t x) j) (x ∷ xs) (ConflictingUsers j)
-
-      rows : List (List UserSet)
-      rows = t.activation_conflicts.partners
-
-      new : List UserSet
-      new = both 64 (get_or rows r []) u v
-
-      p : (ltb r t.sizes.roles ≡ true) × ((ltb u t.sizes.users && ltb v t.sizes.users) ≡ true)
-      p = and_parts (ltb r t.sizes.roles) (ltb u t.sizes.users && ltb v t.sizes.users) i
-
-      f : (u < 64) × (v < 64)
-      f = few u v t.sizes.users 64 w.users_sized.1 p.1
-
-      low : r < 32
-      low = let a = ltb-true r t.sizes.roles p.0 in let b = w.roles_sized.1 in omega arith
-
-      there : r < length rows
-      there = let wide = w.activation_conflicts.wide.0 in omega (arith, low)
-
-      here : SaysEitherWay (holds new) (x ∷ xs) (ConflictingUsers r)
-      here =
-          let wide = w.activation_conflicts.wide.1 r low in
-          either_more 64 (get_or rows r []) u v xs (ConflictingUsers r) (λ a b e. (cc, cc))
-          (omega (arith, f)) (omega (arith, f)) f.0 f.1 (h.users r)
+  users_after (ConflictingUsers r u v) z i q =
+      let f = listed w.roles_sized.1 w.users_sized.1 w.activation_conflicts r u v i in
+      users_more t.activation_conflicts.partners r u v xs ConflictingUsers
+      (λ q a b e. (cc, (cc, cc))) f.0 f.1 f.2 f.3 h.users q
   users_after x z i q =
       either_still x xs (ConflictingUsers q) (λ a b e. cc) (users_pair t q) (h.users q)
 

@@ -17,6 +17,11 @@ use Rattle.policy.specs.UninheritedConflictLaws.{uninherited_conflict_answered}
 use Rattle.policy.specs.BothConflictsLaws.{both_conflicts_answered}
 use Rattle.policy.specs.UninheritedUsersLaws.{uninherited_users_answered}
 
+-- no failure has the number of a policy that passes
+pub failure_has_number : (f : Failure) → failure_number f ≡ 0 → ⊥
+failure_has_number (Cycle a b) e = omega arith
+failure_has_number f e = omega arith
+
 -- each question of the list is answered
 abbrev AllAnswered : Tables → List Question → Type 0
 AllAnswered t [] = Unit {0}

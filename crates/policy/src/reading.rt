@@ -5,7 +5,7 @@ ghost use Rattle.policy.specs.Updates.{only, bare};
 ghost use Rattle.policy.specs.Reading.{is_sizes, is_end, in_range, has_distinct_pair, is_unlimited, with_required, with_entry, after_entry, reading};
 
 use crate::asking::check;
-use crate::rows::{add, add_pair, add_users, at_or, put};
+use crate::rows::{add, add_pair, at_or, put};
 use crate::tables::{
     Dependencies, Hierarchy, Limits, Requirements, RoleConflicts, Sizes, Tables, UserConflicts,
 };
@@ -155,12 +155,7 @@ fn enter(tables: &mut Tables, entry: Entry)
             role,
             first,
             second,
-        } => add_users(
-            &mut tables.activation_conflicts.partners,
-            role,
-            first,
-            second,
-        ),
+        } => tables.activation_conflicts.add(role, first, second),
         Entry::LimitOfRoleUsers { role, limit } => put(&mut tables.limits.users, role, Some(limit)),
         Entry::LimitOfUserRoles { user, limit } => put(&mut tables.limits.roles, user, Some(limit)),
         Entry::LimitOfUserActive { user, limit } => put(

@@ -1,8 +1,8 @@
 // Rows: reading an entry, and adding a member or a limit.
 ghost use Rattle.std.specs.Prelude.{◌≡◌, slice_index_or, slice_set};
-ghost use Rattle.policy.specs.Updates.{with_one, with_both, with_users};
+ghost use Rattle.policy.specs.Updates.{with_one, with_both};
 
-use sets::{BitSet, UserSet, Word};
+use sets::{BitSet, Word};
 
 /// The entry at a place, or the other value past the end.
 pub fn at_or<T: Copy>(rows: &[T], at: u8, or: T) -> T
@@ -36,13 +36,4 @@ pub(crate) fn add_pair<W: Word>(rows: &mut [BitSet<W>], first: u8, second: u8)
 {
     add(rows, first, second);
     add(rows, second, first);
-}
-
-// Adds an unordered pair of users for a role, both ways.
-pub(crate) fn add_users(rows: &mut [[UserSet; 64]; 32], role: u8, first: u8, second: u8)
-    ensures { rows.new ≡ with_users rows.old role first second }
-{
-    let mut row = at_or(rows, role, [UserSet::empty(); 64]);
-    add_pair(&mut row, first, second);
-    put(rows, role, row);
 }

@@ -4,8 +4,9 @@
 ghost use Rattle.std.specs.Prelude.{◌≡◌, [], slice_index_or};
 ghost use Rattle.policy.specs.Entries.{no_roles, no_users};
 ghost use Rattle.policy.specs.Limits.{limit_of_users, limit_of_roles, limit_of_active, limit_of_sessions};
+ghost use Rattle.policy.specs.Updates.{with_users};
 
-use crate::rows::at_or;
+use crate::rows::{add_pair, at_or, put};
 use sets::{RoleSet, UserSet};
 
 /// How many users, roles and sessions there are, each numbered from 0.
@@ -64,6 +65,16 @@ impl UserConflicts {
         self.partners
             .get(usize::from(role))
             .map_or(UserSet::empty(), |row| at_or(row, user, UserSet::empty()))
+    }
+
+    // Adds an unordered pair of users for a role, both ways.
+    pub(crate) fn add(&mut self, role: u8, first: u8, second: u8)
+        ensures { self.new
+            ≡ record { partners = with_users self.old.partners role first second } }
+    {
+        let mut row = at_or(&self.partners, role, [UserSet::empty(); 64]);
+        add_pair(&mut row, first, second);
+        put(&mut self.partners, role, row);
     }
 }
 

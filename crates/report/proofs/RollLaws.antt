@@ -1,20 +1,19 @@
 -- The roll of an input from its parts, and the law that holds of it.
 use Rattle.std.proofs.Common.{Bool, false, true≢false, ◌≡◌, ℕ, ◌-◌, ◌≤◌, ltb, List, [], ◌++◌, length, take, drop, Ok, Err, codes, Result, sym, refl, ap, ◌∙◌, subst, arith}
-use Rattle.std.proofs.lemmas.Bool.{cond-false, le-ltb}
+use Rattle.std.proofs.lemmas.Bool.{cond-false, le-ltb, ne_eqb}
 use Rattle.std.specs.Prelude.{if◌then◌else◌, is_ok, nat_eq}
 use Rattle.std.specs.Result.{is_err}
 use Rattle.records.specs.declared.fault.Fault.{Fault}
 use Rattle.policy.specs.Approved as approved
 use Rattle.policy.specs.declared.approved.Approved.{Approved}
 use Rattle.policy.specs.declared.tables.Tables.{Tables}
-use Rattle.policy.specs.declared.verdict.Failure.TheVariants.{Cycle, SelfConflict, UninheritedConflict, BothConflicts, UninheritedUserConflict}
 use Rattle.policy.specs.Questions.{Passes, Vetted}
 use Rattle.policy.specs.Reading.{reading, draft_of}
 use Rattle.policy.specs.Search.{verdict}
-use Rattle.policy.specs.Verdicts.{Verdict, number_of}
+use Rattle.policy.specs.Verdicts.{Verdict, failure_number, number_of}
 use Rattle.policy.specs.WellFormed.{WellFormed}
 use Rattle.policy.specs.ReadingLaws.{reading_well_formed}
-use Rattle.policy.specs.VerdictLaws.{verdict_right}
+use Rattle.policy.specs.VerdictLaws.{failure_has_number, verdict_right}
 use Rattle.monitor.specs.Apart.{SeparatesAt}
 use Rattle.monitor.specs.declared.states.Cells.{Cells}
 use Rattle.monitor.specs.Cells.{blank}
@@ -34,11 +33,9 @@ use Rattle.report.proofs.EventLines.{tail_is}
 pub passed_by_number : {X : Type 0} (v : Verdict) (x y : X)
     → (if nat_eq (number_of v) 0 then x else y) ≡ (if is_ok v then x else y)
 passed_by_number (Ok u) x y = refl
-passed_by_number (Err (Cycle a b)) x y = refl
-passed_by_number (Err (SelfConflict a)) x y = refl
-passed_by_number (Err (UninheritedConflict a b c)) x y = refl
-passed_by_number (Err (BothConflicts a b)) x y = refl
-passed_by_number (Err (UninheritedUserConflict a b u v)) x y = refl
+passed_by_number (Err f) x y =
+    cond-false (nat_eq (failure_number f) 0) x y
+    (ne_eqb (failure_number f) 0 (failure_has_number f))
 
 abbrev judged_or : Result Judged Fault → Judged
 judged_or (Ok j) = j
