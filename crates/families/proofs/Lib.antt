@@ -1,4 +1,5 @@
 pub mod Asking
 pub mod Rulings
 pub mod Searches
+pub mod Holders
 pub mod UsersWithRole

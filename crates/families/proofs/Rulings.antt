@@ -1,4 +1,4 @@
--- The rulings at the boundaries of the four families: each is computed.
+-- The rulings at the boundaries of the five families: each is computed.
 use Rattle.std.proofs.Common.{refl}
 use Rattle.records.specs.Kinds.{body_length}
 use Rattle.sets.specs.First.{first_of}
@@ -29,6 +29,16 @@ rulings = record {
   dynamic_conflict = (refl, refl);
   users_without_conflict = (refl, refl);
   users_conflict_lowest = (refl, refl);
+  same_role_unshared = (refl, refl);
+  same_role_shared_lowest = (refl, refl);
+  junior_shared_lowest = (refl, refl);
+  senior_shared_lowest = (refl, refl);
+  inherited_is_not_held = (refl, refl);
+  listed_for_senior_only = (refl, refl);
+  listed_for_senior_only_turned = (refl, refl);
+  senior_itself_shared = (refl, refl);
+  static_conflict_names_first = (refl, refl);
+  deassigned_is_not_held = (refl, refl);
   enabled_stands = (refl, refl);
   enabled_missing = (refl, refl);
   assigned_stands = (refl, refl);

@@ -1,4 +1,4 @@
--- The house pile, and what separation keeps in it. Assumes nothing.
+-- The house pile, and what holds in every state that it leads to. Assumes nothing.
 use Rattle.std.specs.Prelude.{List, [], ◌∷◌}
 use Rattle.records.specs.declared.event.Event.{Event}
 use Rattle.policy.specs.declared.tables.Tables.{Tables}
@@ -9,6 +9,7 @@ use Rattle.monitor.specs.Apart.{StaticallyApart}
 use Rattle.monitor.specs.Governed.{tables_of, cells_of}
 use Rattle.monitor.specs.Meaning.{Meaning, Every}
 use Rattle.monitor.specs.RunLaw.{RunLaw}
+use Rattle.families.specs.AssignmentConflicts.{Unshared, assignment_conflicts}
 use Rattle.families.specs.Cardinality.{cardinality}
 use Rattle.families.specs.Dependency.{dependency}
 use Rattle.families.specs.Precedence.{precedence}
@@ -16,7 +17,8 @@ use Rattle.families.specs.Separation.{separation}
 
 -- from the top
 abbrev pub house_rules : List Meaning
-house_rules = cardinality ∷ separation ∷ precedence ∷ dependency ∷ []
+house_rules =
+    cardinality ∷ separation ∷ assignment_conflicts ∷ precedence ∷ dependency ∷ []
 
 -- a pile in whose allowed states nobody is authorised, even by inheritance, for two roles in static
 -- conflict
@@ -28,3 +30,9 @@ KeepsApart ms = (t : Tables) (c : Cells) → Every (λ m. m.allowed t c) ms → 
 abbrev pub StaysApart : GovernedState → Cells → Type 0
 StaysApart g d = (es : List Event) (rs : List Answer)
     → RunLaw house_rules (tables_of g) es rs (cells_of g) → StaticallyApart (tables_of g) d
+
+-- whatever events led to the state by the house pile, in the cells d no two users share an
+-- assignment that they may not
+abbrev pub StaysUnshared : GovernedState → Cells → Type 0
+StaysUnshared g d = (es : List Event) (rs : List Answer)
+    → RunLaw house_rules (tables_of g) es rs (cells_of g) → Unshared (tables_of g) d

@@ -13,15 +13,20 @@ use Rattle.monitor.specs.Authority.{Fits}
 use Rattle.monitor.specs.Meaning.{Meaning, Every, Lawful}
 use Rattle.monitor.specs.Possible.{Possible}
 use Rattle.monitor.specs.Runs.{Topmost}
+use Rattle.families.specs.declared.assignment_conflicts.AssignmentConflicts.{AssignmentConflicts}
 use Rattle.families.specs.declared.cardinality.Cardinality.{Cardinality}
 use Rattle.families.specs.declared.dependency.Dependency.{Dependency}
 use Rattle.families.specs.declared.precedence.Precedence.{Precedence}
 use Rattle.families.specs.declared.separation.Separation.{Separation}
 
-abbrev pub house_pile : Pair Cardinality (Pair Separation (Pair Precedence Dependency))
+abbrev pub house_pile : Pair Cardinality
+    (Pair Separation (Pair AssignmentConflicts (Pair Precedence Dependency)))
 house_pile = record {
   upper = record {};
-  lower = record { upper = record {}; lower = record { upper = record {}; lower = record {} } };
+  lower = record {
+    upper = record {};
+    lower = record { upper = record {}; lower = record { upper = record {}; lower = record {} } };
+  };
 }
 
 -- where such a rule does not admit, its number is below 100

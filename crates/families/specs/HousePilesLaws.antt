@@ -10,6 +10,7 @@ use Rattle.monitor.specs.Meaning.{Meaning, Every, Lawful}
 use Rattle.monitor.specs.Own.{Confined}
 use Rattle.monitor.specs.Possible.{Possible}
 use Rattle.monitor.specs.Runs.{admissions, numbers}
+use Rattle.families.specs.AssignmentConflictsLaws.{assignment_conflicts_below_own}
 use Rattle.families.specs.CardinalityLaws.{cardinality_below_own}
 use Rattle.families.specs.DependencyLaws.{dependency_below_own}
 use Rattle.families.specs.House.{house_rules}
@@ -36,7 +37,10 @@ separates-below_house xs t c fits ok = ok.statically
 pub house_below_own : Every BelowOwn house_rules
 house_below_own = (
   cardinality_below_own,
-  (separation_below_own, (precedence_below_own, (dependency_below_own, tt))),
+  (
+    separation_below_own,
+    (assignment_conflicts_below_own, (precedence_below_own, (dependency_below_own, tt))),
+  ),
 )
 
 module _ (t : Tables) (c : Cells) (e : Event) where

@@ -1,6 +1,8 @@
 pub mod Family
 pub mod Cardinality
 pub mod Separation
+pub mod AssignmentConflicts
+pub mod Holdings
 pub mod Precedence
 pub mod Requirements
 pub mod Dependency
@@ -10,6 +12,8 @@ pub mod Worked
 pub mod FamilyLaws
 pub mod CardinalityLaws
 pub mod SeparationLaws
+pub mod AssignmentConflictsLaws
+pub mod HoldingsLaws
 pub mod PrecedenceLaws
 pub mod RequirementsLaws
 pub mod DependencyLaws

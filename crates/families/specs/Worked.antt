@@ -1,10 +1,10 @@
 -- The worked cases of the written rules, in one joint statement. Assumes nothing.
---   policies   four small policies as bytes, each with its verdict
+--   policies   five small policies as bytes, each with its verdict
 --   runs       events as bytes, each with its row, decided by the house pile from the new state
 --   rulings    what the house pile rules at its boundaries on an event that is possible
 use Rattle.std.specs.Prelude.{◌≡◌, ℕ, List, [], ◌∷◌, length, None, Ok, Err}
 use Rattle.records.specs.declared.event.Event.{Event}
-use Rattle.records.specs.declared.event.Event.TheVariants.{Assign, Enable, Open, Close, Activate, Deactivate}
+use Rattle.records.specs.declared.event.Event.TheVariants.{Assign, Deassign, Enable, Open, Close, Activate, Deactivate}
 use Rattle.policy.specs.declared.tables.Tables.{Tables}
 use Rattle.policy.specs.Reading.{reading, draft_of}
 use Rattle.policy.specs.Worked.{Worked, sample}
@@ -57,8 +57,8 @@ row kind number subject place roles = record {
 abbrev pub admitted : Ruling
 admitted = Ok tt
 
--- the number, its subject, and the place of the family: cardinality 1, separation 2, precedence 3,
--- dependency 4
+-- the number, its subject, and the place of the family: cardinality 1, separation 2, assignment
+-- conflicts 3, precedence 4, dependency 5
 abbrev pub refused : ℕ → ℕ → ℕ → Ruling
 refused number subject place = Err (record { number = number; subject = subject; place = place })
 
@@ -91,6 +91,19 @@ dynamic_pair = 1 ∷ 2 ∷ 3 ∷ 3 ∷ 4 ∷ 2 ∷ 1 ∷ 12 ∷ []
 -- for role 0, user 3 conflicts with 2 and with 1
 abbrev pub conflicting_users : List ℕ
 conflicting_users = 1 ∷ 4 ∷ 1 ∷ 4 ∷ 5 ∷ 0 ∷ 3 ∷ 2 ∷ 5 ∷ 0 ∷ 3 ∷ 1 ∷ 12 ∷ []
+
+-- roles 0 and 2 inherit 1; users 0 and 1, and 0 and 2, may not share an assignment of 1, nor
+-- therefore of 0 or 2; users 0 and 3 may not share one of 0
+abbrev pub couples : List ℕ
+couples =
+    1 ∷ 4 ∷ 3 ∷ 1 ∷ 2 ∷ 0 ∷ 1 ∷ 2 ∷ 2 ∷ 1
+    ∷ 13 ∷ 1 ∷ 0 ∷ 1 ∷ 13 ∷ 0 ∷ 0 ∷ 1 ∷ 13 ∷ 2 ∷ 0 ∷ 1
+    ∷ 13 ∷ 1 ∷ 2 ∷ 0 ∷ 13 ∷ 0 ∷ 2 ∷ 0 ∷ 13 ∷ 2 ∷ 2 ∷ 0
+    ∷ 13 ∷ 0 ∷ 0 ∷ 3 ∷ 12 ∷ []
+
+-- users 0 and 1 may not share an assignment of 1; roles 0 and 1 are a static pair
+abbrev pub couple_apart : List ℕ
+couple_apart = 1 ∷ 2 ∷ 2 ∷ 1 ∷ 3 ∷ 0 ∷ 1 ∷ 13 ∷ 1 ∷ 0 ∷ 1 ∷ 12 ∷ []
 
 -- role 2 requires 0 and 1 enabled
 abbrev pub enabled_requirement : List ℕ
@@ -190,56 +203,77 @@ pub record WorkedRulings : Type 0 where
   pub users_conflict_lowest : IsRuled conflicting_users
       (conflicting_user_events (Activate 1 0 ∷ []))
       (Activate 3 0) (refused 47 1 2)
+  -- 48: the lower of two who hold the same role, a junior of it, a senior of it
+  pub same_role_unshared : IsRuled couples [] (Assign 0 1) admitted
+  pub same_role_shared_lowest : IsRuled couples (Assign 2 1 ∷ Assign 1 1 ∷ [])
+      (Assign 0 1) (refused 48 1 3)
+  pub junior_shared_lowest : IsRuled couples (Assign 2 1 ∷ Assign 1 1 ∷ [])
+      (Assign 0 0) (refused 48 1 3)
+  pub senior_shared_lowest : IsRuled couples (Assign 2 0 ∷ Assign 1 0 ∷ [])
+      (Assign 0 1) (refused 48 1 3)
+  -- authority by inheritance does not count: user 1 is authorised for 1, a junior of 2, by 0
+  pub inherited_is_not_held : IsRuled couples (Assign 1 0 ∷ []) (Assign 0 2) admitted
+  -- a pair listed for the senior only: one holds the senior and the other the junior, and not both
+  -- the senior
+  pub listed_for_senior_only : IsRuled couples (Assign 3 0 ∷ []) (Assign 0 1) admitted
+  pub listed_for_senior_only_turned : IsRuled couples (Assign 3 1 ∷ []) (Assign 0 0) admitted
+  pub senior_itself_shared : IsRuled couples (Assign 3 0 ∷ []) (Assign 0 0) (refused 48 3 3)
+  -- static conflict is asked before, and names first
+  pub static_conflict_names_first : IsRuled couple_apart (Assign 1 1 ∷ Assign 0 0 ∷ [])
+      (Assign 0 1) (refused 45 0 2)
+  -- who gave the assignment up does not stand against another's
+  pub deassigned_is_not_held : IsRuled couples (Assign 1 1 ∷ Deassign 1 1 ∷ [])
+      (Assign 0 1) admitted
   -- 51
   pub enabled_stands : IsRuled enabled_requirement (Enable 0 ∷ Enable 1 ∷ []) (Enable 2) admitted
-  pub enabled_missing : IsRuled enabled_requirement (Enable 0 ∷ []) (Enable 2) (refused 51 1 3)
+  pub enabled_missing : IsRuled enabled_requirement (Enable 0 ∷ []) (Enable 2) (refused 51 1 4)
   -- 52: another user's assignment is none
   pub assigned_stands : IsRuled assigned_requirement (Assign 0 0 ∷ []) (Assign 0 1) admitted
   pub assigned_missing : IsRuled assigned_requirement (Assign 1 0 ∷ [])
-      (Assign 0 1) (refused 52 0 3)
+      (Assign 0 1) (refused 52 0 4)
   -- 53: another user's assignment suffices
   pub anyone_assigned_stands : IsRuled anyone_assigned_requirement (Assign 1 0 ∷ [])
       (Assign 0 1) admitted
-  pub anyone_assigned_missing : IsRuled anyone_assigned_requirement [] (Assign 0 1) (refused 53 0 3)
+  pub anyone_assigned_missing : IsRuled anyone_assigned_requirement [] (Assign 0 1) (refused 53 0 4)
   -- 54: another user's session suffices
   pub active_stands : IsRuled active_requirement (two_user_events (Activate 1 0 ∷ []))
       (Activate 0 1) admitted
   pub active_missing : IsRuled active_requirement (two_user_events [])
-      (Activate 0 1) (refused 54 0 3)
+      (Activate 0 1) (refused 54 0 4)
   -- 55: another session of the user does not suffice
   pub in_session_stands : IsRuled in_session_requirement (two_session_events (Activate 1 0 ∷ []))
       (Activate 1 1) admitted
   pub in_session_missing : IsRuled in_session_requirement (two_session_events (Activate 1 0 ∷ []))
-      (Activate 0 1) (refused 55 0 3)
+      (Activate 0 1) (refused 55 0 4)
   -- 56: another session of the owner suffices, another user's does not; the lowest of two
   pub for_owner_stands : IsRuled for_owner_requirement
       (owner_events (Activate 1 1 ∷ Activate 1 2 ∷ []))
       (Activate 0 3) admitted
   pub for_owner_missing_lowest : IsRuled for_owner_requirement (owner_events [])
-      (Activate 0 3) (refused 56 1 3)
+      (Activate 0 3) (refused 56 1 4)
   -- 61 on activation
   pub dependency_met : IsRuled one_depends (two_session_events (Activate 1 0 ∷ []))
       (Activate 0 1) admitted
-  pub dependency_unmet : IsRuled one_depends (two_session_events []) (Activate 0 1) (refused 61 0 4)
+  pub dependency_unmet : IsRuled one_depends (two_session_events []) (Activate 0 1) (refused 61 0 5)
   -- 61 on deactivation: admitted where another session has the role active
   pub deactivated_elsewhere_active : IsRuled one_depends
       (two_session_events (Activate 1 0 ∷ Activate 0 0 ∷ Activate 0 1 ∷ []))
       (Deactivate 1 0) admitted
   pub deactivated_last : IsRuled one_depends (two_session_events (Activate 1 0 ∷ Activate 0 1 ∷ []))
-      (Deactivate 1 0) (refused 61 0 4)
+      (Deactivate 1 0) (refused 61 0 5)
   -- 61 on a close: its roles end together, where the lower one alone may not end
   pub closed_together : IsRuled one_depends (two_session_events (Activate 0 0 ∷ Activate 0 1 ∷ []))
       (Close 0) admitted
   pub closed_lower_alone : IsRuled one_depends
       (two_session_events (Activate 0 0 ∷ Activate 0 1 ∷ []))
-      (Deactivate 0 0) (refused 61 0 4)
+      (Deactivate 0 0) (refused 61 0 5)
   pub closed_last : IsRuled one_depends (two_session_events (Activate 1 0 ∷ Activate 0 1 ∷ []))
-      (Close 1) (refused 61 0 4)
+      (Close 1) (refused 61 0 5)
   -- the sample
   pub sample_static : IsRuled sample (Assign 0 0 ∷ []) (Assign 0 2) (refused 45 0 2)
-  pub sample_activate : IsRuled sample (sample_session_events []) (Activate 0 3) (refused 61 1 4)
+  pub sample_activate : IsRuled sample (sample_session_events []) (Activate 0 3) (refused 61 1 5)
   pub sample_deactivate : IsRuled sample (sample_session_events (Activate 0 1 ∷ Activate 0 3 ∷ []))
-      (Deactivate 0 1) (refused 61 1 4)
+      (Deactivate 0 1) (refused 61 1 5)
   pub sample_close : IsRuled sample (sample_session_events (Activate 0 1 ∷ Activate 0 3 ∷ []))
       (Close 0) admitted
 
@@ -253,7 +287,7 @@ sample_events =
 abbrev pub sample_rows : List Row
 sample_rows =
     row 32 0 0 0 0 ∷ row 32 45 0 2 0 ∷ row 32 0 0 0 0 ∷ row 34 0 0 0 0 ∷ row 34 0 0 0 0
-    ∷ row 36 0 0 0 0 ∷ row 38 61 1 4 0 ∷ row 38 0 0 0 0 ∷ row 38 0 0 0 0 ∷ row 39 61 1 4 0
+    ∷ row 36 0 0 0 0 ∷ row 38 61 1 5 0 ∷ row 38 0 0 0 0 ∷ row 38 0 0 0 0 ∷ row 39 61 1 5 0
     ∷ row 37 0 0 0 10 ∷ []
 
 -- one role of user 0 activated in two sessions

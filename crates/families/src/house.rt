@@ -1,4 +1,5 @@
-// The house pile: cardinality, separation, precedence, dependency, from the top.
+// The house pile, from the top: cardinality, separation, assignment conflicts, precedence,
+// dependency.
 ghost use Rattle.std.specs.Prelude.{◌≡◌, ◌+◌, ◌<◌, ◌≤◌, [], ◌∷◌, ◌++◌, length, OnErr};
 ghost use Rattle.policy.specs.declared.tables.Tables.{Tables};
 ghost use Rattle.policy.specs.Approved as approved;
@@ -9,15 +10,18 @@ ghost use Rattle.monitor.specs.Meaning.{Every};
 ghost use Rattle.monitor.specs.Monitors.{state_of, SamePolicy};
 ghost use Rattle.monitor.specs.Own.{Confined};
 ghost use Rattle.monitor.specs.RunLaw.{RunLaw};
+ghost use Rattle.families.specs.AssignmentConflicts.{assignment_conflicts};
 ghost use Rattle.families.specs.Cardinality.{cardinality};
 ghost use Rattle.families.specs.Dependency.{dependency};
 ghost use Rattle.families.specs.Family.{Exact};
-ghost use Rattle.families.specs.House.{house_rules, KeepsApart, StaysApart};
+ghost use Rattle.families.specs.Holdings.{JudgesHoldings};
+ghost use Rattle.families.specs.House.{house_rules, KeepsApart, StaysApart, StaysUnshared};
 ghost use Rattle.families.specs.HousePiles.{house_pile, BelowOwn, NumbersTell};
 ghost use Rattle.families.specs.Precedence.{precedence};
 ghost use Rattle.families.specs.Requirements.{AdmitsWhatStands};
 ghost use Rattle.families.specs.Separation.{separation};
 
+use crate::assignment_conflicts::AssignmentConflicts;
 use crate::cardinality::Cardinality;
 use crate::dependency::Dependency;
 use crate::precedence::Precedence;
@@ -30,19 +34,26 @@ use monitor::rules::Rule;
 use policy::checked::Checked;
 use records::event::Event;
 
-/// The four families, from the top.
-pub type House = Pair<Cardinality, Pair<Separation, Pair<Precedence, Dependency>>>;
+/// The five families, from the top.
+pub type House = Pair<
+    Cardinality,
+    Pair<Separation, Pair<AssignmentConflicts, Pair<Precedence, Dependency>>>,
+>;
 
-/// The house pile. In every state that the four families allow, nobody is authorised for two roles
-/// in static conflict. In a state that it allows, each of cardinality, separation and dependency
-/// admits a possible event exactly when it allows the state that a grant makes; precedence admits an
-/// event exactly when all that the event requires stands.
+/// The house pile. In every state that the five families allow, nobody is authorised for two roles
+/// in static conflict. In a state that it allows, each of cardinality, separation, assignment
+/// conflicts and dependency admits a possible event exactly when it allows the state that a grant
+/// makes; precedence admits an event exactly when all that the event requires stands. Assignment
+/// conflicts refuse an assignment exactly where what another user holds stands against it, and name
+/// the lowest such user.
 pub fn house() -> House
     ensures value { result ≡ house_pile }
     ensures law { KeepsApart house_rules }
     ensures separates { (t : Tables) → SeparatesAt house_rules 1 t }
     ensures cardinality { Exact cardinality }
     ensures separation { Exact separation }
+    ensures assignment_conflicts { Exact assignment_conflicts }
+    ensures holdings { JudgesHoldings assignment_conflicts }
     ensures precedence { AdmitsWhatStands precedence }
     ensures dependency { Exact dependency }
 {
@@ -51,8 +62,11 @@ pub fn house() -> House
         lower: Pair {
             upper: Separation {},
             lower: Pair {
-                upper: Precedence {},
-                lower: Dependency {},
+                upper: AssignmentConflicts {},
+                lower: Pair {
+                    upper: Precedence {},
+                    lower: Dependency {},
+                },
             },
         },
     }
@@ -117,7 +131,7 @@ pub fn begin(checked: Checked) -> Monitor<House>
 }
 
 /// Decides an event by the house pile. Whatever events led here, nobody is authorised afterwards
-/// for two roles in static conflict.
+/// for two roles in static conflict, and no two users share an assignment that they may not.
 ///
 /// # Errors
 ///
@@ -131,6 +145,7 @@ pub fn decide(monitor: &mut Monitor<House>, event: Event) -> Answer
     ensures law { Extends house_rules (state_of monitor.old) (event ∷ []) (result ∷ [])
         (cells_of (state_of monitor.new)) }
     ensures apart { StaysApart (state_of monitor.old) (cells_of (state_of monitor.new)) }
+    ensures unshared { StaysUnshared (state_of monitor.old) (cells_of (state_of monitor.new)) }
 {
     monitor.decide(event)
 }

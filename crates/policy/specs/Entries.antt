@@ -2,7 +2,8 @@
 --   holds        a role is in the set at a place
 --   inherits     the first role inherits the second directly
 --   ssd_pair     two roles are in static conflict;  dsd_pair: in dynamic conflict
---   users_pair   two users conflict for a role
+--   users_pair   two users conflict for a role: they may not both have it active
+--   assignment_pair   they may not share an assignment of it
 --   requires_role   by a condition the first role requires the second;  depends: it depends on it
 use Rattle.std.specs.Prelude.{ℕ, zero, suc, Bool, false, List, [], slice_index_or}
 use Rattle.sets.specs.Aliases.{RoleSet, UserSet}
@@ -32,6 +33,9 @@ dsd_pair t a b = holds t.dsd.partners a b
 
 abbrev pub users_pair : Tables → ℕ → ℕ → ℕ → Bool
 users_pair t r u v = holds_user t.activation_conflicts.partners r u v
+
+abbrev pub assignment_pair : Tables → ℕ → ℕ → ℕ → Bool
+assignment_pair t r u v = holds_user t.assignment_conflicts.partners r u v
 
 -- the conditions are numbered from 1
 abbrev pub requires_role : Tables → ℕ → ℕ → ℕ → Bool

@@ -26,6 +26,7 @@ pub mod SelfConflictLaws
 pub mod UninheritedConflictLaws
 pub mod BothConflictsLaws
 pub mod UninheritedUsersLaws
+pub mod UninheritedAssignmentsLaws
 pub mod VerdictLaws
 pub mod AskingLaws
 pub mod ApprovedLaws

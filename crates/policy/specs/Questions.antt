@@ -6,8 +6,8 @@
 use Rattle.std.specs.Prelude.{◌≡◌, ℕ, ◌<◌, true, false, ◌⊎◌, Ok, Err}
 use Rattle.policy.specs.declared.tables.Tables.{Tables}
 use Rattle.policy.specs.declared.verdict.Failure.{Failure}
-use Rattle.policy.specs.declared.verdict.Failure.TheVariants.{Cycle, SelfConflict, UninheritedConflict, BothConflicts, UninheritedUserConflict}
-use Rattle.policy.specs.Entries.{inherits, ssd_pair, dsd_pair, users_pair}
+use Rattle.policy.specs.declared.verdict.Failure.TheVariants.{Cycle, SelfConflict, UninheritedConflict, BothConflicts, UninheritedUserConflict, UninheritedAssignmentConflict}
+use Rattle.policy.specs.Entries.{inherits, ssd_pair, dsd_pair, users_pair, assignment_pair}
 use Rattle.policy.specs.Seniority.{Senior}
 use Rattle.policy.specs.Verdicts.{Verdict, failure_number, failure_names, Lower, Sooner}
 
@@ -24,6 +24,10 @@ Witness t (BothConflicts a b) = (ssd_pair t a b ≡ true) × (dsd_pair t a b ≡
 -- a is senior to b, and two users conflict for b but not for a; the lower user first
 Witness t (UninheritedUserConflict a b u v) =
     (u < v) × Senior (inherits t) a b × (users_pair t b u v ≡ true) × (users_pair t a u v ≡ false)
+-- the same of users who may not share an assignment
+Witness t (UninheritedAssignmentConflict a b u v) =
+    (u < v) × Senior (inherits t) a b
+    × (assignment_pair t b u v ≡ true) × (assignment_pair t a u v ≡ false)
 
 abbrev pub Passes : Tables → Type 0
 Passes t = (f : Failure) → Witness t f → ⊥

@@ -14,13 +14,13 @@ use Rattle.records.specs.Entries.{entry_taken}
 use Rattle.records.specs.declared.fault.Fault.{Fault}
 use Rattle.records.specs.declared.fault.Fault.TheVariants.{MisplacedSizes, OutOfRange, EqualPair, RepeatedLimit, NoByte}
 use Rattle.records.specs.declared.entry.Entry.{Entry}
-use Rattle.records.specs.declared.entry.Entry.TheVariants.{Sizes, Inherits, StaticPair, DynamicPair, ConflictingUsers, LimitOfRoleUsers, LimitOfUserRoles, LimitOfUserActive, LimitOfRoleSessions, Required, Dependency, End}
+use Rattle.records.specs.declared.entry.Entry.TheVariants.{Sizes, Inherits, StaticPair, DynamicPair, ConflictingUsers, LimitOfRoleUsers, LimitOfUserRoles, LimitOfUserActive, LimitOfRoleSessions, Required, Dependency, End, AssignmentConflict}
 use Rattle.sets.specs.Aliases.{RoleSet}
 use Rattle.policy.specs.declared.tables.Sizes.{Sizes as Counts}
 use Rattle.policy.specs.declared.tables.Limits.{Limits}
 use Rattle.policy.specs.declared.tables.Tables.{Tables}
 use Rattle.policy.specs.Limits.{limit_of_users, limit_of_roles, limit_of_active, limit_of_sessions}
-use Rattle.policy.specs.Updates.{only, bare, with_role, with_pair, with_users, with_hierarchy, with_ssd, with_dsd, with_activation_conflicts, with_limits, with_requirements, with_dependencies}
+use Rattle.policy.specs.Updates.{only, bare, with_role, with_pair, with_users, with_hierarchy, with_ssd, with_dsd, with_activation_conflicts, with_assignment_conflicts, with_limits, with_requirements, with_dependencies}
 
 abbrev pub same : Bool → Bool → Bool
 same true b = b
@@ -50,11 +50,13 @@ in_range s (LimitOfRoleSessions r n) = nat_lt r s.roles
 in_range s (Required k a b) = between 1 6 k && (nat_lt a s.roles && nat_lt b s.roles)
 in_range s (Dependency a b) = nat_lt a s.roles && nat_lt b s.roles
 in_range s End = true
+in_range s (AssignmentConflict r u v) = nat_lt r s.roles && (nat_lt u s.users && nat_lt v s.users)
 
 -- are the last two different, where they have to be
 abbrev pub has_distinct_pair : Entry → Bool
 has_distinct_pair (ConflictingUsers r u v) = not (u == v)
 has_distinct_pair (Dependency a b) = not (a == b)
+has_distinct_pair (AssignmentConflict r u v) = not (u == v)
 has_distinct_pair _ = true
 
 -- had the subject of a limit none
@@ -98,6 +100,8 @@ with_entry t (LimitOfRoleSessions r n) = with_limits t (with_limit_of_sessions t
 with_entry t (Required k a b) = with_requirements t (with_required t.requirements.sets k a b)
 with_entry t (Dependency a b) = with_dependencies t (with_role t.dependencies.needs a b)
 with_entry t End = t
+with_entry t (AssignmentConflict r u v) =
+    with_assignment_conflicts t (with_users t.assignment_conflicts.partners r u v)
 
 -- the questions of a whole record at a place, in their order, and the tables after it
 abbrev pub after_entry : Tables → Entry → ℕ → Result Tables Fault

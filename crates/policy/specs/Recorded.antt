@@ -11,11 +11,11 @@ use Rattle.records.specs.Entries.{entry_taken}
 use Rattle.records.specs.declared.fault.Fault.{Fault}
 use Rattle.records.specs.declared.fault.Fault.TheVariants.{MisplacedSizes, OutOfRange, EqualPair, RepeatedLimit}
 use Rattle.records.specs.declared.entry.Entry.{Entry}
-use Rattle.records.specs.declared.entry.Entry.TheVariants.{Sizes, Inherits, StaticPair, DynamicPair, ConflictingUsers, LimitOfRoleUsers, LimitOfUserRoles, LimitOfUserActive, LimitOfRoleSessions, Required, Dependency, End}
+use Rattle.records.specs.declared.entry.Entry.TheVariants.{Sizes, Inherits, StaticPair, DynamicPair, ConflictingUsers, LimitOfRoleUsers, LimitOfUserRoles, LimitOfUserActive, LimitOfRoleSessions, Required, Dependency, End, AssignmentConflict}
 use Rattle.policy.specs.declared.tables.Sizes.{Sizes as Counts}
 use Rattle.policy.specs.declared.tables.Tables.{Tables}
 use Rattle.policy.specs.Asking.{question}
-use Rattle.policy.specs.Entries.{inherits, ssd_pair, dsd_pair, users_pair, requires_role, depends}
+use Rattle.policy.specs.Entries.{inherits, ssd_pair, dsd_pair, users_pair, assignment_pair, requires_role, depends}
 use Rattle.policy.specs.Limits.{limit_of_users, limit_of_roles, limit_of_active, limit_of_sessions}
 use Rattle.policy.specs.Reading.{same, is_sizes, is_end, in_range, has_distinct_pair}
 use Rattle.policy.specs.Updates.{bare}
@@ -82,6 +82,7 @@ pub record TablesSay (records : List Entry) (t : Tables) : Type 0 where
   pub statics : SaysEitherWay (ssd_pair t) records StaticPair
   pub dynamics : SaysEitherWay (dsd_pair t) records DynamicPair
   pub users : (r : ℕ) → SaysEitherWay (users_pair t r) records (ConflictingUsers r)
+  pub assignments : (r : ℕ) → SaysEitherWay (assignment_pair t r) records (AssignmentConflict r)
   pub role_users : SaysLimit (limit_of_users t.limits) records LimitOfRoleUsers
   pub user_roles : SaysLimit (limit_of_roles t.limits) records LimitOfUserRoles
   pub user_active : SaysLimit (limit_of_active t.limits) records LimitOfUserActive

@@ -8,8 +8,8 @@ use Rattle.sets.specs.Aliases.{RoleSet}
 use Rattle.sets.specs.First.{first_of}
 use Rattle.policy.specs.declared.tables.Tables.{Tables}
 use Rattle.policy.specs.declared.verdict.Failure.{Failure}
-use Rattle.policy.specs.declared.verdict.Failure.TheVariants.{Cycle, SelfConflict, UninheritedConflict, BothConflicts, UninheritedUserConflict}
-use Rattle.policy.specs.Entries.{holds, ssd_pair, dsd_pair, users_pair}
+use Rattle.policy.specs.declared.verdict.Failure.TheVariants.{Cycle, SelfConflict, UninheritedConflict, BothConflicts, UninheritedUserConflict, UninheritedAssignmentConflict}
+use Rattle.policy.specs.Entries.{holds, ssd_pair, dsd_pair, users_pair, assignment_pair}
 use Rattle.policy.specs.Questions.{Witness, IsLowest}
 use Rattle.policy.specs.Seniority.{closure}
 use Rattle.policy.specs.Verdicts.{Verdict, failure_number}
@@ -95,6 +95,27 @@ abbrev pub uninherited_users_question : List RoleSet → Tables → Question
 uninherited_users_question rows t =
     record { number = 15; finding = lowest_uninherited_users rows t }
 
+-- two users who may not share an assignment of a junior role, and are not listed for its senior
+abbrev pub uninherited_assignment_conflict_at : Tables → ℕ → ℕ → ℕ → ℕ → Option Failure
+uninherited_assignment_conflict_at t a b u v =
+    if assignment_pair t b u v && not (assignment_pair t a u v)
+    then Some (UninheritedAssignmentConflict a b u v)
+    else None
+
+abbrev pub uninherited_assignments_at : List RoleSet → Tables → ℕ → ℕ → Option Failure
+uninherited_assignments_at rows t a b =
+    if holds rows a b
+    then first_of t.sizes.users (λ u. first_of 64 (uninherited_assignment_conflict_at t a b u))
+    else None
+
+abbrev pub lowest_uninherited_assignments : List RoleSet → Tables → Option Failure
+lowest_uninherited_assignments rows t =
+    first_of t.sizes.roles (λ a. first_of t.sizes.roles (uninherited_assignments_at rows t a))
+
+abbrev pub uninherited_assignments_question : List RoleSet → Tables → Question
+uninherited_assignments_question rows t =
+    record { number = 16; finding = lowest_uninherited_assignments rows t }
+
 -- all questions, in the order of their numbers
 abbrev pub questions : List RoleSet → Tables → List Question
 questions rows t =
@@ -103,6 +124,7 @@ questions rows t =
     ∷ uninherited_conflict_question rows t
     ∷ both_conflicts_question t
     ∷ uninherited_users_question rows t
+    ∷ uninherited_assignments_question rows t
     ∷ []
 
 -- the first failure that is found, or the verdict on what comes after

@@ -4,11 +4,11 @@ use Rattle.std.proofs.lemmas.List.{length-set, length-replicate, get_or-replicat
 use Rattle.std.proofs.lemmas.Bool.{cases_eq, and_parts, ltb-true, leb-true}
 use Rattle.records.specs.Kinds.{between}
 use Rattle.records.specs.declared.entry.Entry.{Entry}
-use Rattle.records.specs.declared.entry.Entry.TheVariants.{Sizes, Inherits, StaticPair, DynamicPair, ConflictingUsers, LimitOfRoleUsers, LimitOfUserRoles, LimitOfUserActive, LimitOfRoleSessions, Required, Dependency}
+use Rattle.records.specs.declared.entry.Entry.TheVariants.{Sizes, Inherits, StaticPair, DynamicPair, ConflictingUsers, LimitOfRoleUsers, LimitOfUserRoles, LimitOfUserActive, LimitOfRoleSessions, Required, Dependency, AssignmentConflict}
 use Rattle.sets.specs.Aliases.{RoleSet, UserSet}
 use Rattle.policy.specs.declared.tables.Sizes.{Sizes as Counts}
 use Rattle.policy.specs.declared.tables.Tables.{Tables}
-use Rattle.policy.specs.Entries.{no_roles, no_users, holds, inherits, ssd_pair, dsd_pair, users_pair, requires_role, depends}
+use Rattle.policy.specs.Entries.{no_roles, no_users, holds, inherits, ssd_pair, dsd_pair, users_pair, assignment_pair, requires_role, depends}
 use Rattle.policy.specs.Limits.{limit_of_users, limit_of_roles, limit_of_active, limit_of_sessions}
 use Rattle.policy.specs.Reading.{is_sizes, in_range, is_unlimited, with_entry}
 use Rattle.policy.specs.Recorded.{Says, SaysEitherWay, SaysLimit, TablesSay}
@@ -100,6 +100,16 @@ module _ (t : Tables) (w : WellFormed t) (l : Long t) (xs : List Entry) (h : Tab
       (λ q a b e. (cc, (cc, cc))) f.0 f.1 f.2 f.3 h.users q
   users_after x z i q =
       either_still x xs (ConflictingUsers q) (λ a b e. cc) (users_pair t q) (h.users q)
+
+  assignments_after : (x : Entry) → is_sizes x ≡ false → in_range t.sizes x ≡ true → (q : ℕ)
+      → SaysEitherWay (assignment_pair (with_entry t x) q) (x ∷ xs) (AssignmentConflict q)
+  assignments_after (Sizes u r n) z i q = cc
+  assignments_after (AssignmentConflict r u v) z i q =
+      let f = listed w.roles_sized.1 w.users_sized.1 w.assignment_conflicts r u v i in
+      users_more t.assignment_conflicts.partners r u v xs AssignmentConflict
+      (λ q a b e. (cc, (cc, cc))) f.0 f.1 f.2 f.3 h.assignments q
+  assignments_after x z i q =
+      either_still x xs (AssignmentConflict q) (λ a b e. cc) (assignment_pair t q) (h.assignments q)
 
   required_after : (x : Entry) → is_sizes x ≡ false → in_range t.sizes x ≡ true → (q : ℕ)
       → Says (requires_role (with_entry t x) q) (x ∷ xs) (Required q)
@@ -221,6 +231,7 @@ module _ (t : Tables) (w : WellFormed t) (l : Long t) (xs : List Entry) (h : Tab
     statics = statics_after x z i;
     dynamics = dynamics_after x z i;
     users = users_after x z i;
+    assignments = assignments_after x z i;
     role_users = role_users_after x z i o;
     user_roles = user_roles_after x z i o;
     user_active = user_active_after x z i o;
@@ -231,11 +242,12 @@ module _ (t : Tables) (w : WellFormed t) (l : Long t) (xs : List Entry) (h : Tab
 
 -- the tables with nothing in them, and the sizes record alone
 
-no_users_pair : (s : Counts) (r u v : ℕ) → users_pair (only s) r u v ≡ false
+no_users_pair : (s : Counts) (r u v : ℕ)
+    → (users_pair (only s) r u v ≡ false) × (assignment_pair (only s) r u v ≡ false)
 unfolding only
 no_users_pair s r u v =
-    replicate_each (λ row. holds row u v ≡ false) 32 (replicate 64 no_users) []
-    (no_member 64 u v) (no_member 0 u v) r
+    let none = replicate_each (λ row. holds row u v ≡ false) 32 (replicate 64 no_users) []
+    (no_member 64 u v) (no_member 0 u v) r in (none, none)
 
 none_required : (s : Counts) (k a b : ℕ) → requires_role (only s) k a b ≡ false
 unfolding only
@@ -256,7 +268,10 @@ tables_say_nothing s = record {
   juniors = says_nothing (inherits (only s)) Inherits (no_member 32);
   statics = either_nothing (ssd_pair (only s)) StaticPair (no_member 32);
   dynamics = either_nothing (dsd_pair (only s)) DynamicPair (no_member 32);
-  users = λ r. either_nothing (users_pair (only s) r) (ConflictingUsers r) (no_users_pair s r);
+  users = λ r. either_nothing (users_pair (only s) r) (ConflictingUsers r)
+      (λ u v. (no_users_pair s r u v).0);
+  assignments = λ r. either_nothing (assignment_pair (only s) r) (AssignmentConflict r)
+      (λ u v. (no_users_pair s r u v).1);
   role_users = limit_nothing (limit_of_users (only s).limits) LimitOfRoleUsers (no_limit_at 32);
   user_roles = limit_nothing (limit_of_roles (only s).limits) LimitOfUserRoles (no_limit_at 64);
   user_active = limit_nothing (limit_of_active (only s).limits) LimitOfUserActive (no_limit_at 64);
@@ -278,6 +293,8 @@ tables_say_sizes u r n =
       dynamics = either_still x [] DynamicPair (λ a b e. cc) (dsd_pair t) h.dynamics;
       users = λ q.
           either_still x [] (ConflictingUsers q) (λ a b e. cc) (users_pair t q) (h.users q);
+      assignments = λ q. either_still x [] (AssignmentConflict q) (λ a b e. cc)
+          (assignment_pair t q) (h.assignments q);
       role_users =
           limit_still x [] LimitOfRoleUsers (λ a b e. cc) (limit_of_users t.limits) h.role_users;
       user_roles =

@@ -16,6 +16,7 @@ only sizes = record {
   ssd = record { partners = replicate 32 no_roles };
   dsd = record { partners = replicate 32 no_roles };
   activation_conflicts = record { partners = replicate 32 (replicate 64 no_users) };
+  assignment_conflicts = record { partners = replicate 32 (replicate 64 no_users) };
   limits = record {
     users = replicate 32 None;
     roles = replicate 64 None;
@@ -65,6 +66,9 @@ with_dsd t x = record t { dsd = record { partners = x } }
 
 abbrev pub with_activation_conflicts : Tables → List (List UserSet) → Tables
 with_activation_conflicts t x = record t { activation_conflicts = record { partners = x } }
+
+abbrev pub with_assignment_conflicts : Tables → List (List UserSet) → Tables
+with_assignment_conflicts t x = record t { assignment_conflicts = record { partners = x } }
 
 abbrev pub with_limits : Tables → Limits → Tables
 with_limits t x = record t { limits = x }

@@ -16,6 +16,7 @@ use Rattle.policy.specs.SelfConflictLaws.{self_conflict_answered}
 use Rattle.policy.specs.UninheritedConflictLaws.{uninherited_conflict_answered}
 use Rattle.policy.specs.BothConflictsLaws.{both_conflicts_answered}
 use Rattle.policy.specs.UninheritedUsersLaws.{uninherited_users_answered}
+use Rattle.policy.specs.UninheritedAssignmentsLaws.{uninherited_assignments_answered}
 
 -- no failure has the number of a policy that passes
 pub failure_has_number : (f : Failure) → failure_number f ≡ 0 → ⊥
@@ -106,6 +107,7 @@ questions_right t w rows tells =
       uninherited_conflict_answered t w rows tells,
       both_conflicts_answered t w,
       uninherited_users_answered t w rows tells,
+      uninherited_assignments_answered t w rows tells,
     )
 
     rising : IsRising 0 (questions rows t)

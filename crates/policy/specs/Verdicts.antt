@@ -1,7 +1,7 @@
 -- The number and the names of each verdict, and which failure comes sooner. Assumes nothing.
 use Rattle.std.specs.Prelude.{◌≡◌, ℕ, ◌<◌, ◌⊎◌, List, [], ◌∷◌, Ok, Err, Result}
 use Rattle.policy.specs.declared.verdict.Failure.{Failure}
-use Rattle.policy.specs.declared.verdict.Failure.TheVariants.{Cycle, SelfConflict, UninheritedConflict, BothConflicts, UninheritedUserConflict}
+use Rattle.policy.specs.declared.verdict.Failure.TheVariants.{Cycle, SelfConflict, UninheritedConflict, BothConflicts, UninheritedUserConflict, UninheritedAssignmentConflict}
 
 -- a policy passes, or fails a question
 abbrev pub Verdict : Type 0
@@ -13,6 +13,7 @@ failure_number (SelfConflict a) = 12
 failure_number (UninheritedConflict a b c) = 13
 failure_number (BothConflicts a b) = 14
 failure_number (UninheritedUserConflict a b u v) = 15
+failure_number (UninheritedAssignmentConflict a b u v) = 16
 
 -- four names; unused ones are 0
 abbrev pub failure_names : Failure → List ℕ
@@ -21,6 +22,7 @@ failure_names (SelfConflict a) = a ∷ 0 ∷ 0 ∷ 0 ∷ []
 failure_names (UninheritedConflict a b c) = a ∷ b ∷ c ∷ 0 ∷ []
 failure_names (BothConflicts a b) = a ∷ b ∷ 0 ∷ 0 ∷ []
 failure_names (UninheritedUserConflict a b u v) = a ∷ b ∷ u ∷ v ∷ []
+failure_names (UninheritedAssignmentConflict a b u v) = a ∷ b ∷ u ∷ v ∷ []
 
 abbrev pub number_of : Verdict → ℕ
 number_of (Ok _) = 0

@@ -63,3 +63,4 @@ pub record WellFormed (t : Tables) : Type 0 where
   pub ssd : RolePairs t.sizes.roles t.ssd.partners
   pub dsd : RolePairs t.sizes.roles t.dsd.partners
   pub activation_conflicts : UserPairs t.sizes t.activation_conflicts.partners
+  pub assignment_conflicts : UserPairs t.sizes t.assignment_conflicts.partners

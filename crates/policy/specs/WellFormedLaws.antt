@@ -3,7 +3,7 @@ use Rattle.std.proofs.Common.{◌≡◌, ℕ, ◌<◌, ◌≤◌, Bool, true, fa
 use Rattle.std.proofs.lemmas.Bool.{ltb-true, leb-true, eqb-false, not-true, and_parts}
 use Rattle.records.specs.Kinds.{between}
 use Rattle.records.specs.declared.entry.Entry.{Entry}
-use Rattle.records.specs.declared.entry.Entry.TheVariants.{Sizes, Inherits, StaticPair, DynamicPair, ConflictingUsers, LimitOfRoleUsers, LimitOfUserRoles, LimitOfUserActive, LimitOfRoleSessions, Required, Dependency, End}
+use Rattle.records.specs.declared.entry.Entry.TheVariants.{Sizes, Inherits, StaticPair, DynamicPair, ConflictingUsers, LimitOfRoleUsers, LimitOfUserRoles, LimitOfUserActive, LimitOfRoleSessions, Required, Dependency, End, AssignmentConflict}
 use Rattle.records.specs.declared.fault.Fault.{Fault}
 use Rattle.records.specs.declared.fault.Fault.TheVariants.{MisplacedSizes, OutOfRange, EqualPair, RepeatedLimit}
 use Rattle.policy.specs.declared.tables.Sizes.{Sizes as Counts}
@@ -51,6 +51,12 @@ with_entry_well_formed t (ConflictingUsers r u v) w i d =
     search (user_pairs-with_users s t.activation_conflicts.partners r u v
     w.roles_sized.1 w.users_sized.1 (ltb-true r s.roles p.0) (below u v s.users p.1)
     (eqb-false u v (not-true (eqb u v) d)) w.activation_conflicts)
+with_entry_well_formed t (AssignmentConflict r u v) w i d =
+    let s : Counts = t.sizes in
+    let p = and_parts (ltb r s.roles) (ltb u s.users && ltb v s.users) i in
+    search (user_pairs-with_users s t.assignment_conflicts.partners r u v
+    w.roles_sized.1 w.users_sized.1 (ltb-true r s.roles p.0) (below u v s.users p.1)
+    (eqb-false u v (not-true (eqb u v) d)) w.assignment_conflicts)
 with_entry_well_formed t (LimitOfRoleUsers r n) w i d = search w
 with_entry_well_formed t (LimitOfUserRoles u n) w i d = search w
 with_entry_well_formed t (LimitOfUserActive u n) w i d = search w

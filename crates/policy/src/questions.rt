@@ -2,7 +2,7 @@
 ghost use Rattle.std.specs.Prelude.{◌≡◌};
 ghost use Rattle.sets.specs.First.{first_of};
 ghost use Rattle.policy.specs.Seniority.{closure};
-ghost use Rattle.policy.specs.Search.{cycle_at, lowest_cycle, self_conflict_at, lowest_self_conflict, is_uninherited_conflict, lowest_uninherited_conflict, both_conflicts_at, lowest_both_conflicts, uninherited_user_conflict_at, uninherited_users_at, lowest_uninherited_users, verdict};
+ghost use Rattle.policy.specs.Search.{cycle_at, lowest_cycle, self_conflict_at, lowest_self_conflict, is_uninherited_conflict, lowest_uninherited_conflict, both_conflicts_at, lowest_both_conflicts, uninherited_user_conflict_at, uninherited_users_at, lowest_uninherited_users, uninherited_assignment_conflict_at, uninherited_assignments_at, lowest_uninherited_assignments, verdict};
 
 use crate::asking::none_of;
 use crate::seniority::Seniority;
@@ -26,7 +26,8 @@ impl Questions<'_> {
         none_of(self.find_self_conflict())?;
         none_of(self.find_uninherited_conflict())?;
         none_of(self.find_both_conflicts())?;
-        none_of(self.find_uninherited_users())
+        none_of(self.find_uninherited_users())?;
+        none_of(self.find_uninherited_assignments())
     }
 
     // Two different roles that are each senior to the other, the lower first.
@@ -159,6 +160,52 @@ impl Questions<'_> {
         let lost = below.difference(above);
         lost.lowest()
             .map(|second| Failure::UninheritedUserConflict {
+                senior,
+                junior,
+                first,
+                second,
+            })
+    }
+
+    // Two users who are listed, as not to share an assignment, for a junior role and not its senior.
+    fn find_uninherited_assignments(&self) -> Option<Failure>
+        ensures { result
+            ≡ lowest_uninherited_assignments self.now.seniority.now.rows self.now.tables.now }
+    {
+        (0..self.tables.sizes.roles).find_map(|senior| self.uninherited_assignments_from(senior))
+    }
+
+    fn uninherited_assignments_from(&self, senior: u8) -> Option<Failure>
+        ensures { result ≡ first_of self.now.tables.now.sizes.roles
+            (uninherited_assignments_at self.now.seniority.now.rows self.now.tables.now senior) }
+    {
+        (0..self.tables.sizes.roles).find_map(|junior| self.uninherited_assignments_of(
+            senior, junior,
+        ))
+    }
+
+    fn uninherited_assignments_of(&self, senior: u8, junior: u8) -> Option<Failure>
+        ensures { result ≡ uninherited_assignments_at self.now.seniority.now.rows
+            self.now.tables.now senior junior }
+    {
+        if !self.seniority.is_senior(senior, junior) {
+            return None;
+        }
+        (0..self.tables.sizes.users).find_map(|first| self.uninherited_assignment_conflict(
+            senior, junior, first,
+        ))
+    }
+
+    // The lowest user who is listed with `first` for the junior and not for the senior.
+    fn uninherited_assignment_conflict(&self, senior: u8, junior: u8, first: u8) -> Option<Failure>
+        ensures { result ≡ first_of 64
+            (uninherited_assignment_conflict_at self.now.tables.now senior junior first) }
+    {
+        let below = self.tables.assignment_conflicts.of(junior, first);
+        let above = self.tables.assignment_conflicts.of(senior, first);
+        let lost = below.difference(above);
+        lost.lowest()
+            .map(|second| Failure::UninheritedAssignmentConflict {
                 senior,
                 junior,
                 first,

@@ -31,14 +31,14 @@ fn only(sizes: Sizes) -> Tables
     ensures { result ≡ only sizes }
 {
     let no_roles = [RoleSet::empty(); 32];
+    let no_users = [[UserSet::empty(); 64]; 32];
     Tables {
         sizes,
         hierarchy: Hierarchy { juniors: no_roles },
         ssd: RoleConflicts { partners: no_roles },
         dsd: RoleConflicts { partners: no_roles },
-        activation_conflicts: UserConflicts {
-            partners: [[UserSet::empty(); 64]; 32],
-        },
+        activation_conflicts: UserConflicts { partners: no_users },
+        assignment_conflicts: UserConflicts { partners: no_users },
         limits: Limits {
             users: [None; 32],
             roles: [None; 64],
@@ -82,6 +82,11 @@ fn in_range(sizes: Sizes, entry: Entry) -> bool
             role,
             first,
             second,
+        }
+        | Entry::AssignmentConflict {
+            role,
+            first,
+            second,
         } => { role < sizes.roles && first < sizes.users && second < sizes.users }
         Entry::LimitOfRoleUsers { role, .. } | Entry::LimitOfRoleSessions { role, .. } => role
             < sizes.roles,
@@ -103,7 +108,8 @@ fn has_distinct_pair(entry: Entry) -> bool
     ensures { result ≡ has_distinct_pair entry }
 {
     match entry {
-        Entry::ConflictingUsers { first, second, .. } => first != second,
+        Entry::ConflictingUsers { first, second, .. }
+        | Entry::AssignmentConflict { first, second, .. } => first != second,
         Entry::Dependency { role, needs } => role != needs,
         _ => true,
     }
@@ -156,6 +162,11 @@ fn enter(tables: &mut Tables, entry: Entry)
             first,
             second,
         } => tables.activation_conflicts.add(role, first, second),
+        Entry::AssignmentConflict {
+            role,
+            first,
+            second,
+        } => tables.assignment_conflicts.add(role, first, second),
         Entry::LimitOfRoleUsers { role, limit } => put(&mut tables.limits.users, role, Some(limit)),
         Entry::LimitOfUserRoles { user, limit } => put(&mut tables.limits.roles, user, Some(limit)),
         Entry::LimitOfUserActive { user, limit } => put(

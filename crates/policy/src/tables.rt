@@ -136,7 +136,9 @@ pub struct Dependencies {
     pub needs: [RoleSet; 32],
 }
 
-/// A policy: `ssd` is static and `dsd` dynamic separation of duty.
+/// A policy: `ssd` is static and `dsd` dynamic separation of duty. Users in conflict for a role may
+/// not both have it active (`activation_conflicts`), or not share an assignment of it
+/// (`assignment_conflicts`).
 #[derive(Clone, Copy)]
 pub struct Tables {
     pub sizes: Sizes,
@@ -144,6 +146,7 @@ pub struct Tables {
     pub ssd: RoleConflicts,
     pub dsd: RoleConflicts,
     pub activation_conflicts: UserConflicts,
+    pub assignment_conflicts: UserConflicts,
     pub limits: Limits,
     pub requirements: Requirements,
     pub dependencies: Dependencies,

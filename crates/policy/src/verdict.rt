@@ -39,13 +39,21 @@ pub enum Failure {
         first: u8,
         second: u8,
     },
+    /// Two users are listed, as not to share an assignment, for `junior`, and not for its senior.
+    #[error("users {first} and {second} may not share role {junior}, but may share its senior {senior}")]
+    UninheritedAssignmentConflict {
+        senior: u8,
+        junior: u8,
+        first: u8,
+        second: u8,
+    },
 }
 
 /// The verdict on a policy: it passes, or it fails a question.
 pub type Verdict = Result<(), Failure>;
 
 impl Failure {
-    /// The number that is printed for the failed question, from 11 to 15.
+    /// The number that is printed for the failed question, from 11 to 16.
     pub fn number(self) -> u8
         ensures { result ≡ failure_number self }
     {
@@ -55,6 +63,7 @@ impl Failure {
             Failure::UninheritedConflict { .. } => 13,
             Failure::BothConflicts { .. } => 14,
             Failure::UninheritedUserConflict { .. } => 15,
+            Failure::UninheritedAssignmentConflict { .. } => 16,
         }
     }
 
@@ -72,6 +81,12 @@ impl Failure {
             } => [senior, junior, other, 0],
             Failure::BothConflicts { first, second } => [first, second, 0, 0],
             Failure::UninheritedUserConflict {
+                senior,
+                junior,
+                first,
+                second,
+            }
+            | Failure::UninheritedAssignmentConflict {
                 senior,
                 junior,
                 first,

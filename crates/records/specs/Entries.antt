@@ -5,7 +5,7 @@ use Rattle.records.specs.Parts.{Took, Taken, taken}
 use Rattle.records.specs.declared.kinds.Reader.TheVariants.{Policy}
 use Rattle.records.specs.declared.fault.Fault.{Fault}
 use Rattle.records.specs.declared.entry.Entry.{Entry}
-use Rattle.records.specs.declared.entry.Entry.TheVariants.{Sizes, Inherits, StaticPair, DynamicPair, ConflictingUsers, LimitOfRoleUsers, LimitOfUserRoles, LimitOfUserActive, LimitOfRoleSessions, Required, Dependency, End}
+use Rattle.records.specs.declared.entry.Entry.TheVariants.{Sizes, Inherits, StaticPair, DynamicPair, ConflictingUsers, LimitOfRoleUsers, LimitOfUserRoles, LimitOfUserActive, LimitOfRoleSessions, Required, Dependency, End, AssignmentConflict}
 
 -- by the number of bytes in the body, then by the kind
 abbrev pub entry_of : ℕ → List ℕ → Option Entry
@@ -25,6 +25,7 @@ entry_of k (a ∷ b ∷ c ∷ []) =
     if k == 1 then Some (Sizes a b c)
     else if k == 5 then Some (ConflictingUsers a b c)
     else if k == 10 then Some (Required a b c)
+    else if k == 13 then Some (AssignmentConflict a b c)
     else None
 entry_of k (a ∷ b ∷ c ∷ d ∷ more) = None
 

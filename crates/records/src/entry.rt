@@ -29,7 +29,7 @@ pub enum Entry {
         first: u8,
         second: u8,
     },
-    /// Kind 5, two users in conflict over a role.
+    /// Kind 5, two users who may not both have the role active.
     ConflictingUsers {
         role: u8,
         first: u8,
@@ -69,6 +69,12 @@ pub enum Entry {
     },
     /// Kind 12, the end of the policy.
     End,
+    /// Kind 13, two users who may not share an assignment of the role.
+    AssignmentConflict {
+        role: u8,
+        first: u8,
+        second: u8,
+    },
 }
 
 impl Record for Entry {
@@ -104,6 +110,11 @@ impl Record for Entry {
             }),
             (11, &[role, needs]) => Some(Entry::Dependency { role, needs }),
             (12, []) => Some(Entry::End),
+            (13, &[role, first, second]) => Some(Entry::AssignmentConflict {
+                role,
+                first,
+                second,
+            }),
             _ => None,
         }
     }

@@ -5,7 +5,7 @@ ghost use Rattle.records.specs.Kinds.{body_length, reads};
 /// One of the two readers of records: each takes kinds of its own.
 #[derive(Clone, Copy, PartialEq, Eq)]
 pub enum Reader {
-    /// The reader of a policy, which takes the kinds 1 to 12.
+    /// The reader of a policy, which takes the kinds 1 to 13.
     Policy,
     /// The reader of events, which takes the kinds 32 to 39.
     Events,
@@ -17,7 +17,7 @@ impl Reader {
         ensures { result ≡ reads self kind }
     {
         match self {
-            Reader::Policy => matches!(kind, 1..=12),
+            Reader::Policy => matches!(kind, 1..=13),
             Reader::Events => matches!(kind, 32..=39),
         }
     }
@@ -27,7 +27,7 @@ impl Reader {
 #[rattlefmt::skip]
 const BODY: &[Option<u8>; 256] = &[
     None, Some(3), Some(2), Some(2), Some(2), Some(3), Some(2), Some(2),
-    Some(2), Some(2), Some(3), Some(2), Some(0), None, None, None,
+    Some(2), Some(2), Some(3), Some(2), Some(0), Some(3), None, None,
     None, None, None, None, None, None, None, None,
     None, None, None, None, None, None, None, None,
     Some(2), Some(2), Some(1), Some(1), Some(2), Some(1), Some(2), Some(2),

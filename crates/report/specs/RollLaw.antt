@@ -2,6 +2,7 @@
 --   OnRoll, RollLaw              by the rules of a pile, of an input and its printed roll
 --   OnApartRoll, ApartRollLaw    the same, with what separation keeps where it is in the pile
 --   HouseRollLaw                 the same of the house pile
+--   OnUnsharedRoll, UnsharedRollLaw   of the house pile, with what assignment conflicts keep
 use Rattle.std.specs.Prelude.{◌≡◌, ℕ, ◌≤◌, List, ◌++◌, length, drop, Ok}
 use Rattle.policy.specs.declared.tables.Tables.{Tables}
 use Rattle.policy.specs.Questions.{Passes}
@@ -11,6 +12,7 @@ use Rattle.monitor.specs.Apart.{StaticallyApart}
 use Rattle.monitor.specs.declared.states.Cells.{Cells}
 use Rattle.monitor.specs.RunLaw.{RunLaw}
 use Rattle.monitor.specs.Meaning.{Meaning}
+use Rattle.families.specs.AssignmentConflicts.{Unshared}
 use Rattle.families.specs.House.{house_rules}
 use Rattle.report.specs.Roll.{whole_script, script_text}
 use Rattle.report.specs.Texts.{verdict_line}
@@ -41,3 +43,12 @@ ApartRollLaw ms bytes text = (t : Tables) (n : ℕ) → length bytes ≤ 65536
 
 abbrev pub HouseRollLaw : List ℕ → List ℕ → Type 0
 HouseRollLaw bytes text = ApartRollLaw house_rules bytes text
+
+-- and after them no two users share an assignment that they may not
+pub record OnUnsharedRoll (t : Tables) (n : ℕ) (bytes text : List ℕ) : Type 0 where
+  pub roll : OnRoll house_rules t n bytes text
+  pub unshared : Unshared t roll.state
+
+abbrev pub UnsharedRollLaw : List ℕ → List ℕ → Type 0
+UnsharedRollLaw bytes text = (t : Tables) (n : ℕ) → length bytes ≤ 65536
+    → reading bytes ≡ Ok (t, n) → Passes t → OnUnsharedRoll t n bytes text

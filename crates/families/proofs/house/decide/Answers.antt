@@ -13,4 +13,5 @@ returns c =
       apart = λ es rs past.
           house-apart c.args.monitor.now.governed.policy.draft.tables
           c.decide.new.self.governed.state.cells (is.law es rs past).allowed;
+      unshared = λ es rs past. (is.law es rs past).allowed.1.1.0;
     }

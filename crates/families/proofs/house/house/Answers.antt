@@ -1,6 +1,8 @@
 use Rattle.std.proofs.Common.{refl}
+use Rattle.families.specs.AssignmentConflictsLaws.{assignment_conflicts_exact}
 use Rattle.families.specs.CardinalityLaws.{cardinality_exact}
 use Rattle.families.specs.DependencyLaws.{dependency_exact}
+use Rattle.families.specs.HoldingsLaws.{judges_holdings}
 use Rattle.families.specs.HouseLaws.{house-apart}
 use Rattle.families.specs.RequirementsLaws.{precedence_admits_what_stands}
 use Rattle.families.specs.SeparationLaws.{separation_exact}
@@ -13,6 +15,8 @@ returns c = record {
   separates = λ t c fits ok. ok.statically;
   cardinality = cardinality_exact;
   separation = separation_exact;
+  assignment_conflicts = assignment_conflicts_exact;
+  holdings = judges_holdings;
   precedence = precedence_admits_what_stands;
   dependency = dependency_exact;
 }

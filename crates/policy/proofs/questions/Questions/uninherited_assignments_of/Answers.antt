@@ -1,0 +1,8 @@
+use Rattle.std.proofs.Common.{None, sym, ◌∙◌, rules}
+use Rattle.std.proofs.lemmas.Bool.{cond-true}
+use Rattle.policy.proofs.Finding.{first_from_find_map}
+use Rattle.policy.proofs.questions.Questions.uninherited_assignments_of.Goals as goal
+
+pub returns : goal.returns
+returns c = first_from_find_map _ _ _ _ _ c.find_map.ensures.runs (λ x a q k. search rules)
+    ∙ sym (cond-true _ _ None (sym c.if-not-is_senior.ensures))
