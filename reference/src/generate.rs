@@ -10,7 +10,7 @@ use std::collections::BTreeSet;
 use crate::event::{kind as event_kind, Event};
 use crate::hierarchy::Hierarchy;
 use crate::monitor::Monitor;
-use crate::policy::{kind, Policy, MAX_ROLES, MAX_SESSIONS, MAX_USERS};
+use crate::policy::{body_length, kind, Policy, MAX_ROLES, MAX_SESSIONS, MAX_USERS};
 use crate::random::Random;
 use crate::roll::INPUT_LIMIT;
 use crate::sets::{has_role, role_bit, roles_of};
@@ -70,6 +70,9 @@ fn cast_of(random: &mut Random, size: usize) -> Vec<usize> {
     cast.into_iter().collect()
 }
 
+/// Role, user, user, the lower user first.
+type ListedUsers = BTreeSet<(usize, usize, usize)>;
+
 /// A policy to be written. Pairs have their lower number first.
 struct Plan {
     users: usize,
@@ -79,8 +82,8 @@ struct Plan {
     inherits: BTreeSet<(usize, usize)>,
     static_pairs: BTreeSet<(usize, usize)>,
     dynamic_pairs: BTreeSet<(usize, usize)>,
-    /// Role, user, user.
-    conflicting_users: BTreeSet<(usize, usize, usize)>,
+    conflicting_users: ListedUsers,
+    assignment_conflicts: ListedUsers,
     /// Kind, user or role, limit.
     limits: Vec<(u8, usize, u8)>,
     /// Condition, role, required role.
@@ -129,7 +132,7 @@ fn limit(random: &mut Random) -> u8 {
 }
 
 impl Plan {
-    /// A policy that passes the five questions. How much of each sort of
+    /// A policy that passes the six questions. How much of each sort of
     /// record it has differs widely from plan to plan.
     fn new(random: &mut Random) -> Plan {
         let (users, roles, sessions) = sizes(random);
@@ -147,6 +150,7 @@ impl Plan {
             static_pairs: BTreeSet::new(),
             dynamic_pairs: BTreeSet::new(),
             conflicting_users: BTreeSet::new(),
+            assignment_conflicts: BTreeSet::new(),
             limits: Vec::new(),
             required: Vec::new(),
             depends: Vec::new(),
@@ -159,6 +163,8 @@ impl Plan {
         }
         plan.add_hierarchy(random, &order);
         plan.add_conflicts(random);
+        plan.add_conflicting_users(random);
+        plan.add_assignment_conflicts(random);
         plan.add_limits(random);
         plan.add_requirements(random, &order);
         plan
@@ -185,6 +191,12 @@ impl Plan {
                 if random.chance(density) {
                     self.inherits.insert((senior, junior));
                 }
+            }
+        }
+        // Two that inherit the same role.
+        if let ([.., _, _, junior], true) = (order, random.chance(30)) {
+            if let Some((a, b)) = two_of(random, &order[..order.len() - 1]) {
+                self.inherits.extend([(a, *junior), (b, *junior)]);
             }
         }
         if random.chance(5) {
@@ -217,15 +229,90 @@ impl Plan {
                 self.dynamic_pairs.insert(ordered(a, b));
             }
         }
+    }
+
+    fn add_conflicting_users(&mut self, random: &mut Random) {
         for _ in 0..random.pick(&[0, 0, 2, 4, 8]) {
             let Some((a, b)) = two_of(random, &self.cast.users) else {
                 break;
             };
-            let (lower, higher) = ordered(a, b);
             let junior = random.pick(&self.cast.roles);
-            for role in self.seniors(junior) {
-                self.conflicting_users.insert((role, lower, higher));
+            self.list_users(kind::CONFLICTING_USERS, junior, (a, b));
+        }
+    }
+
+    /// Users who may not share an assignment: a few pairs, each listed for
+    /// several roles, so that what they hold meets.
+    fn add_assignment_conflicts(&mut self, random: &mut Random) {
+        let count = random.pick(&[0, 0, 1, 2, 4, 8]);
+        // Sometimes the same user is in all the pairs.
+        let shared = random.chance(50).then(|| random.pick(&self.cast.users));
+        for _ in 0..count {
+            let Some((a, b)) = two_of(random, &self.cast.users) else {
+                break;
+            };
+            let a = shared.filter(|&user| user != b).unwrap_or(a);
+            for _ in 0..random.between(1, 3) {
+                let junior = self.role_to_list_for(random);
+                self.list_users(kind::ASSIGNMENT_CONFLICT, junior, (a, b));
             }
+        }
+    }
+
+    /// Sometimes a role that is inherited by two others, neither of them senior
+    /// to the other; sometimes one that has juniors, which are not listed then.
+    fn role_to_list_for(&self, random: &mut Random) -> usize {
+        let hierarchy = self.hierarchy();
+        let is_suitable: &dyn Fn(usize) -> bool = match random.weighted(&[4, 3, 3]) {
+            0 => &|_| true,
+            1 => &|role| !self.seniors_apart(role).is_empty(),
+            _ => &|role| hierarchy.juniors(role) != role_bit(role),
+        };
+        let suitable = self.cast.roles.iter().copied();
+        let suitable: Vec<_> = suitable.filter(|&role| is_suitable(role)).collect();
+        if suitable.is_empty() {
+            return random.pick(&self.cast.roles);
+        }
+        random.pick(&suitable)
+    }
+
+    /// Pairs of seniors of the role, neither of the two senior to the other.
+    fn seniors_apart(&self, role: usize) -> Vec<(usize, usize)> {
+        let hierarchy = self.hierarchy();
+        let seniors = self.seniors(role);
+        let mut apart = Vec::new();
+        for &a in &seniors {
+            let is_apart = |&b: &usize| !hierarchy.is_senior(a, b) && !hierarchy.is_senior(b, a);
+            apart.extend(seniors.iter().copied().filter(is_apart).map(|b| (a, b)));
+        }
+        apart
+    }
+
+    /// Lists two users for a role and all its seniors, by records of the kind.
+    fn list_users(&mut self, kind: u8, junior: usize, (a, b): (usize, usize)) {
+        let (lower, higher) = ordered(a, b);
+        for role in self.seniors(junior) {
+            self.listed(kind).insert((role, lower, higher));
+        }
+    }
+
+    /// The users who may not share an assignment of the role with this one.
+    fn users_listed_with(&self, user: usize, role: usize) -> Vec<usize> {
+        let of_role = |&&(listed_for, _, _): &&(usize, usize, usize)| listed_for == role;
+        let listed = self.assignment_conflicts.iter().filter(of_role);
+        let other = |&(_, a, b): &(usize, usize, usize)| match user {
+            user if user == a => Some(b),
+            user if user == b => Some(a),
+            _ => None,
+        };
+        listed.filter_map(other).collect()
+    }
+
+    /// The users that are listed by records of the kind.
+    fn listed(&mut self, kind: u8) -> &mut ListedUsers {
+        match kind {
+            kind::CONFLICTING_USERS => &mut self.conflicting_users,
+            _ => &mut self.assignment_conflicts,
         }
     }
 
@@ -277,10 +364,10 @@ impl Plan {
         }
     }
 
-    /// Makes flaws, one or a few, that the five questions may find.
+    /// Makes flaws, one or a few, that the six questions may find.
     fn spoil(&mut self, random: &mut Random) {
         for _ in 0..random.pick(&[1, 1, 1, 2, 2, 3]) {
-            match random.weighted(&[12, 10, 24, 20, 34]) {
+            match random.weighted(&[12, 10, 24, 20, 30, 40, 6]) {
                 0 => self.spoil_hierarchy(random),
                 1 => {
                     let role = random.pick(&self.cast.roles);
@@ -292,7 +379,9 @@ impl Plan {
                 }
                 2 => self.spoil_static_pairs(random),
                 3 => self.spoil_dynamic_pairs(random),
-                _ => self.spoil_users(random),
+                4 => self.spoil_users(random, kind::CONFLICTING_USERS),
+                5 => self.spoil_users(random, kind::ASSIGNMENT_CONFLICT),
+                _ => self.exchange_kind(random),
             }
         }
     }
@@ -345,20 +434,37 @@ impl Plan {
         }
     }
 
-    fn spoil_users(&mut self, random: &mut Random) {
-        let triples: Vec<_> = self.conflicting_users.iter().copied().collect();
+    /// Takes out users that are listed by records of the kind, or lists some
+    /// for a junior alone.
+    fn spoil_users(&mut self, random: &mut Random, kind: u8) {
+        let triples: Vec<_> = self.listed(kind).iter().copied().collect();
         if !triples.is_empty() && random.chance(50) {
             for _ in 0..random.between(1, 3) {
-                self.conflicting_users.remove(&random.pick(&triples));
+                self.listed(kind).remove(&random.pick(&triples));
             }
         } else if let Some((_, junior)) = self.senior_and_junior(random) {
             for _ in 0..random.between(1, 4) {
                 if let Some((a, b)) = two_of(random, &self.cast.users) {
                     let (lower, higher) = ordered(a, b);
-                    self.conflicting_users.insert((junior, lower, higher));
+                    self.listed(kind).insert((junior, lower, higher));
                 }
             }
         }
+    }
+
+    /// Users who may not share the assignment of a junior: for its senior they
+    /// are listed by the other kind, which says nothing of it.
+    fn exchange_kind(&mut self, random: &mut Random) {
+        let Some((senior, junior)) = self.senior_and_junior(random) else {
+            return;
+        };
+        let Some((a, b)) = two_of(random, &self.cast.users) else {
+            return;
+        };
+        let (lower, higher) = ordered(a, b);
+        self.list_users(kind::CONFLICTING_USERS, senior, (a, b));
+        self.list_users(kind::ASSIGNMENT_CONFLICT, junior, (a, b));
+        self.assignment_conflicts.remove(&(senior, lower, higher));
     }
 
     fn sizes_record(&self) -> Vec<u8> {
@@ -386,15 +492,15 @@ impl Plan {
                 records.push(record);
             }
         }
-        for &(role, lower, higher) in &self.conflicting_users {
-            let mut record = vec![
-                kind::CONFLICTING_USERS,
-                role as u8,
-                lower as u8,
-                higher as u8,
-            ];
-            random.shuffle(&mut record[2..]);
-            records.push(record);
+        for (kind, listed) in [
+            (kind::CONFLICTING_USERS, &self.conflicting_users),
+            (kind::ASSIGNMENT_CONFLICT, &self.assignment_conflicts),
+        ] {
+            for &(role, lower, higher) in listed {
+                let mut record = vec![kind, role as u8, lower as u8, higher as u8];
+                random.shuffle(&mut record[2..]);
+                records.push(record);
+            }
         }
         for &(condition, role, required) in &self.required {
             records.push(vec![
@@ -427,8 +533,8 @@ impl Plan {
 fn unknown_kind(random: &mut Random) -> u8 {
     loop {
         let any = random.byte();
-        let kind = random.pick(&[0, 13, 31, 40, 64, 255, any]);
-        if !(kind::SIZES..=kind::END).contains(&kind)
+        let kind = random.pick(&[0, 14, 31, 40, 64, 255, any]);
+        if body_length(kind).is_none()
             && !(event_kind::ASSIGN..=event_kind::DEACTIVATE).contains(&kind)
         {
             return kind;
@@ -452,14 +558,14 @@ fn damaged(random: &mut Random, plan: &Plan, mut records: Vec<Vec<u8>>) -> Vec<u
             let place = random.below(bytes.len());
             bytes[place] = match random.below(3) {
                 0 => bytes[place] ^ (1 << random.below(8)),
-                1 => random.below(14) as u8,
+                1 => random.below(15) as u8,
                 _ => random.byte(),
             };
         }
         3 => bytes.clear(),
         _ => {
             bytes = (0..random.between(1, 40))
-                .map(|_| random.below(14) as u8)
+                .map(|_| random.below(15) as u8)
                 .collect()
         }
     }
@@ -469,26 +575,10 @@ fn damaged(random: &mut Random, plan: &Plan, mut records: Vec<Vec<u8>>) -> Vec<u
 fn damage_records(random: &mut Random, plan: &Plan, records: &mut Vec<Vec<u8>>) {
     // Behind the first record, and before the last if there are several.
     let place = random.between(1, (records.len() - 1).max(1));
-    let past_roles = random.pick(&[plan.roles, plan.roles + 1, 32, 64, 255]) as u8;
-    let past_users = random.pick(&[plan.users, plan.users + 1, 64, 65, 255]) as u8;
-    let role = random.below(plan.roles) as u8;
-    let user = random.below(plan.users) as u8;
-    let condition = random.between(1, 6) as u8;
     match random.below(17) {
         // Nothing: the bytes may be damaged as a whole.
         0 | 1 => {}
-        // An unknown kind, or an event, among the records.
-        2 => {
-            let mut record = vec![unknown_kind(random)];
-            if random.chance(50) {
-                record.extend([role, user]);
-            }
-            records.insert(place, record);
-        }
-        3 => {
-            let kind = random.between(event_kind::ASSIGN.into(), event_kind::DEACTIVATE.into());
-            records.insert(place, vec![kind as u8, user, role]);
-        }
+        2 | 3 => records.insert(place, foreign_record(random, plan)),
         // The sizes are missing, late, or there twice.
         4 => {
             records.remove(0);
@@ -513,55 +603,97 @@ fn damage_records(random: &mut Random, plan: &Plan, records: &mut Vec<Vec<u8>>) 
         }
         // A second limit.
         8 | 9 => {
-            let kind =
-                random.between(kind::USERS_OF_ROLE.into(), kind::SESSIONS_OF_ROLE.into()) as u8;
+            let kind = limit_kind(random);
             let of_role = matches!(kind, kind::USERS_OF_ROLE | kind::SESSIONS_OF_ROLE);
-            let subject = if of_role { role } else { user };
+            let size = if of_role { plan.roles } else { plan.users };
+            let subject = random.below(size) as u8;
             records.insert(place, vec![kind, subject, limit(random)]);
             let later = random.between(place, records.len());
             records.insert(later, vec![kind, subject, limit(random)]);
         }
-        // Two that must differ are equal, perhaps out of range as well.
-        10 => {
-            let user = if random.chance(25) { past_users } else { user };
-            let role = if random.chance(15) { past_roles } else { role };
-            records.insert(place, vec![kind::CONFLICTING_USERS, role, user, user]);
-        }
-        11 => {
-            let role = if random.chance(25) { past_roles } else { role };
-            records.insert(place, vec![kind::DEPENDS, role, role]);
-        }
+        10 | 11 => records.insert(place, record_of_equals(random, plan)),
         // Sizes out of range, or at their ends.
         12 => {
             let mut sizes = plan.sizes_record();
             sizes[random.between(1, 3)] = random.pick(&[0, 1, 32, 33, 64, 65, 255]);
             records[0] = sizes;
         }
-        // A condition that there is not.
-        13 => {
-            let condition = random.pick(&[0, 7, 255]);
-            records.insert(place, vec![kind::REQUIRES, condition, role, role]);
-        }
-        // A number of a record out of range.
-        14 | 15 => {
-            let record = match random.below(8) {
-                0 => vec![kind::INHERITS, past_roles, role],
-                1 => vec![kind::INHERITS, role, past_roles],
-                2 => vec![kind::STATIC_PAIR, past_roles, role],
-                3 => vec![kind::DYNAMIC_PAIR, role, past_roles],
-                4 => vec![kind::CONFLICTING_USERS, role, user, past_users],
-                5 => vec![kind::REQUIRES, condition, past_roles, role],
-                6 => vec![kind::REQUIRES, condition, role, past_roles],
-                _ => vec![kind::DEPENDS, past_roles, role],
-            };
-            records.insert(place, record);
-        }
-        // A limit for nobody.
+        _ => records.insert(place, record_out_of_range(random, plan)),
+    }
+}
+
+/// A record of an unknown kind, or of an event.
+fn foreign_record(random: &mut Random, plan: &Plan) -> Vec<u8> {
+    let role = random.below(plan.roles) as u8;
+    let user = random.below(plan.users) as u8;
+    if random.chance(50) {
+        let kind = random.between(event_kind::ASSIGN.into(), event_kind::DEACTIVATE.into());
+        return vec![kind as u8, user, role];
+    }
+    let mut record = vec![unknown_kind(random)];
+    if random.chance(50) {
+        record.extend([role, user]);
+    }
+    record
+}
+
+/// One of the four kinds of limits.
+fn limit_kind(random: &mut Random) -> u8 {
+    random.between(kind::USERS_OF_ROLE.into(), kind::SESSIONS_OF_ROLE.into()) as u8
+}
+
+/// A role that the policy does not have.
+fn past_roles(random: &mut Random, plan: &Plan) -> u8 {
+    random.pick(&[plan.roles, plan.roles + 1, 32, 64, 255]) as u8
+}
+
+/// A user that the policy does not have.
+fn past_users(random: &mut Random, plan: &Plan) -> u8 {
+    random.pick(&[plan.users, plan.users + 1, 64, 65, 255]) as u8
+}
+
+/// Two that must differ are equal, perhaps out of range as well.
+fn record_of_equals(random: &mut Random, plan: &Plan) -> Vec<u8> {
+    let user = if random.chance(25) {
+        past_users(random, plan)
+    } else {
+        random.below(plan.users) as u8
+    };
+    let role = if random.chance(15) {
+        past_roles(random, plan)
+    } else {
+        random.below(plan.roles) as u8
+    };
+    match random.below(3) {
+        0 => vec![kind::CONFLICTING_USERS, role, user, user],
+        1 => vec![kind::ASSIGNMENT_CONFLICT, role, user, user],
+        _ => vec![kind::DEPENDS, role, role],
+    }
+}
+
+/// A record that has a number out of range: a role, a user or a condition.
+fn record_out_of_range(random: &mut Random, plan: &Plan) -> Vec<u8> {
+    let past_roles = past_roles(random, plan);
+    let past_users = past_users(random, plan);
+    let role = random.below(plan.roles) as u8;
+    let user = random.below(plan.users) as u8;
+    let condition = random.between(1, 6) as u8;
+    match random.weighted(&[1, 1, 1, 1, 1, 2, 2, 2, 1, 1, 1, 6, 6]) {
+        0 => vec![kind::INHERITS, past_roles, role],
+        1 => vec![kind::INHERITS, role, past_roles],
+        2 => vec![kind::STATIC_PAIR, past_roles, role],
+        3 => vec![kind::DYNAMIC_PAIR, role, past_roles],
+        4 => vec![kind::CONFLICTING_USERS, role, user, past_users],
+        5 => vec![kind::ASSIGNMENT_CONFLICT, past_roles, user, 0],
+        6 => vec![kind::ASSIGNMENT_CONFLICT, role, past_users, user],
+        7 => vec![kind::ASSIGNMENT_CONFLICT, role, user, past_users],
+        8 => vec![kind::REQUIRES, condition, past_roles, role],
+        9 => vec![kind::REQUIRES, condition, role, past_roles],
+        10 => vec![kind::DEPENDS, past_roles, role],
+        11 => vec![kind::REQUIRES, random.pick(&[0, 7, 255]), role, role],
         _ => {
-            let kind =
-                random.between(kind::USERS_OF_ROLE.into(), kind::SESSIONS_OF_ROLE.into()) as u8;
             let subject = random.pick(&[past_roles, past_users]);
-            records.insert(place, vec![kind, subject, limit(random)]);
+            vec![limit_kind(random), subject, limit(random)]
         }
     }
 }
@@ -590,7 +722,7 @@ fn with_events(random: &mut Random, plan: &Plan, policy: Vec<u8>) -> Vec<u8> {
 fn near_the_limit(random: &mut Random, plan: &Plan) -> Vec<u8> {
     let over = random.between(2, 5000);
     let length = INPUT_LIMIT - 1 + random.pick(&[0, 1, 1, 1, 2, 2, 1 + over]);
-    let mut records = plan.records(random);
+    let records = plan.records(random);
     let mut policy = records.concat();
     match random.below(4) {
         // Events up to there, the last one perhaps cut.
@@ -603,22 +735,7 @@ fn near_the_limit(random: &mut Random, plan: &Plan) -> Vec<u8> {
             bytes.truncate(length);
             bytes
         }
-        // A policy up to there, by records that say nothing new.
-        2 => {
-            let end = records.pop().unwrap_or_default();
-            let mut bytes = records.concat();
-            let padding = length - end.len() - bytes.len();
-            let role = random.pick(&plan.cast.roles) as u8;
-            for _ in 0..padding % 3 {
-                bytes.extend([kind::REQUIRES, 1, role, role]);
-            }
-            while bytes.len() + end.len() < length {
-                let role = random.below(plan.roles) as u8;
-                bytes.extend([kind::INHERITS, role, role]);
-            }
-            bytes.extend(end);
-            bytes
-        }
+        2 => padded_policy(random, plan, records, length),
         // Some events, and nothing that means anything behind them.
         _ => {
             let mut script = Script::new(random, plan, policy);
@@ -630,10 +747,40 @@ fn near_the_limit(random: &mut Random, plan: &Plan) -> Vec<u8> {
     }
 }
 
+/// A policy of this length, by records that say nothing new.
+fn padded_policy(
+    random: &mut Random,
+    plan: &Plan,
+    mut records: Vec<Vec<u8>>,
+    length: usize,
+) -> Vec<u8> {
+    let end = records.pop().unwrap_or_default();
+    let mut bytes = records.concat();
+    let padding = length - end.len() - bytes.len();
+    let role = random.pick(&plan.cast.roles) as u8;
+    for _ in 0..padding % 3 {
+        bytes.extend([kind::REQUIRES, 1, role, role]);
+    }
+    // These have 4 bytes: three at a time leave a multiple of 3, as it was.
+    if let Some(&(role, a, b)) = plan.assignment_conflicts.first() {
+        let record = [kind::ASSIGNMENT_CONFLICT, role as u8, b as u8, a as u8];
+        for _ in 0..random.below(padding / 12) {
+            bytes.extend(record.repeat(3));
+        }
+    }
+    while bytes.len() + end.len() < length {
+        let role = random.below(plan.roles) as u8;
+        bytes.extend([kind::INHERITS, role, role]);
+    }
+    bytes.extend(end);
+    bytes
+}
+
 /// Writes events behind a policy, and runs them beside if it passes.
 struct Script<'a> {
     random: &'a mut Random,
     plan: &'a Plan,
+    hierarchy: Hierarchy,
     monitor: Option<Monitor>,
     bytes: Vec<u8>,
     /// Where each event starts.
@@ -650,6 +797,7 @@ impl<'a> Script<'a> {
         Script {
             random,
             plan,
+            hierarchy: plan.hierarchy(),
             monitor,
             bytes: policy,
             starts: Vec::new(),
@@ -699,6 +847,11 @@ impl<'a> Script<'a> {
             self.put_opening(count / 2);
         }
         let provoking = self.random.pick(&[0, 5, 10, 20]);
+        let disputes = if self.plan.assignment_conflicts.is_empty() {
+            0
+        } else {
+            self.random.pick(&[0, 5, 15])
+        };
         let possible = self.random.pick(&[40, 60, 75]);
         let weights = self.random.pick(&[
             [18, 8, 12, 7, 8, 5, 34, 8],
@@ -707,12 +860,96 @@ impl<'a> Script<'a> {
             [12, 12, 12, 12, 12, 12, 14, 14],
         ]);
         while self.starts.len() < end {
-            let event = match self.random.weighted(&[provoking, possible, 100 - possible]) {
+            let sorts = [provoking, possible, 100 - possible, disputes];
+            let event = match self.random.weighted(&sorts) {
                 0 => self.provoking_event(&weights),
                 1 => self.possible_event(&weights),
-                _ => self.any_event(&weights),
+                2 => self.any_event(&weights),
+                _ => {
+                    if self.random.chance(25) {
+                        self.put_apart();
+                    } else {
+                        self.put_dispute();
+                    }
+                    continue;
+                }
             };
             self.put(event);
+        }
+    }
+
+    /// Assigns a role, or a senior or junior of it, to one or a few users who
+    /// are listed for it with another user, and then to that user. Mostly their
+    /// assignments end one by one then, and the user asks again each time.
+    fn put_dispute(&mut self) {
+        let listed: Vec<_> = self.plan.assignment_conflicts.iter().copied().collect();
+        let (role, lower, higher) = self.random.pick(&listed);
+        let user = self.random.pick(&[lower, higher]);
+        let mut others = self.plan.users_listed_with(user, role);
+        self.random.shuffle(&mut others);
+        others.truncate(self.random.between(1, 3));
+        if self.random.chance(50) {
+            self.put_end_of_assignments(user);
+        }
+        let held: Vec<_> = others
+            .iter()
+            .map(|&other| (other, self.related_role(role)))
+            .collect();
+        for &(user, role) in &held {
+            self.put(Event::Assign { user, role });
+        }
+        let asked = Event::Assign {
+            user,
+            role: self.related_role(role),
+        };
+        self.put(asked);
+        if self.random.chance(60) {
+            for &(user, role) in &held {
+                self.put(Event::Deassign { user, role });
+                self.put(asked);
+            }
+        }
+    }
+
+    /// Assigns two seniors of a role, neither of them senior to the other, to
+    /// two users who are listed for it: each is authorised for a junior of what
+    /// the other holds, and does not hold it.
+    fn put_apart(&mut self) {
+        let listed: Vec<_> = self.plan.assignment_conflicts.iter().copied().collect();
+        for _ in 0..8 {
+            let (role, lower, higher) = self.random.pick(&listed);
+            let apart = self.plan.seniors_apart(role);
+            if apart.is_empty() {
+                continue;
+            }
+            let (held, asked) = self.random.pick(&apart);
+            self.put_end_of_assignments(lower);
+            self.put_end_of_assignments(higher);
+            for (user, role) in [(lower, held), (higher, asked)] {
+                self.put(Event::Assign { user, role });
+            }
+            return;
+        }
+    }
+
+    /// The role itself, or a senior or junior of it.
+    fn related_role(&mut self, role: usize) -> usize {
+        let related: Vec<_> = match self.random.weighted(&[4, 4, 3]) {
+            0 => vec![role],
+            1 => self.plan.seniors(role),
+            _ => roles_of(self.hierarchy.juniors(role)).collect(),
+        };
+        self.random.pick(&related)
+    }
+
+    /// Ends the assignments that the user has, as far as that is possible.
+    fn put_end_of_assignments(&mut self, user: usize) {
+        let Some(monitor) = &self.monitor else {
+            return;
+        };
+        let assigned = monitor.state().assigned.get(user).copied();
+        for role in roles_of(assigned.unwrap_or(0)) {
+            self.put(Event::Deassign { user, role });
         }
     }
 
@@ -889,7 +1126,8 @@ impl<'a> Script<'a> {
     /// A kind that is not one of an event.
     fn breaking_kind(&mut self) -> u8 {
         if self.random.chance(30) {
-            self.random.between(kind::SIZES.into(), kind::END.into()) as u8
+            let last = kind::ASSIGNMENT_CONFLICT.into();
+            self.random.between(kind::SIZES.into(), last) as u8
         } else {
             unknown_kind(self.random)
         }

@@ -46,7 +46,7 @@ impl Answer {
     }
 }
 
-/// A policy that passed the five questions, and a state that fits it.
+/// A policy that passed the six questions, and a state that fits it.
 #[derive(Clone, Debug)]
 pub struct Monitor {
     policy: Policy,

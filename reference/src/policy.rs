@@ -20,12 +20,14 @@ pub mod kind {
     pub const REQUIRES: u8 = 10;
     pub const DEPENDS: u8 = 11;
     pub const END: u8 = 12;
+    pub const ASSIGNMENT_CONFLICT: u8 = 13;
 }
 
 /// How many bytes follow the kind; none for a kind that no policy has.
 pub fn body_length(kind: u8) -> Option<usize> {
     match kind {
         kind::SIZES | kind::CONFLICTING_USERS | kind::REQUIRES => Some(3),
+        kind::ASSIGNMENT_CONFLICT => Some(3),
         kind::INHERITS..=kind::DEPENDS => Some(2),
         kind::END => Some(0),
         _ => None,
@@ -76,6 +78,9 @@ pub struct Refusal {
     pub place: usize,
 }
 
+/// Pairs of users: by role, then by user, the users listed with that user.
+pub type UserPairs = Vec<Vec<UserSet>>;
+
 /// The tables as they were written. Pairs are stored both ways.
 #[derive(Clone, Debug)]
 pub struct Policy {
@@ -88,8 +93,10 @@ pub struct Policy {
     pub static_conflicts: Vec<RoleSet>,
     /// By role: the roles in dynamic conflict with it.
     pub dynamic_conflicts: Vec<RoleSet>,
-    /// By role, then by user: the users in conflict with that user.
-    pub user_conflicts: Vec<Vec<UserSet>>,
+    /// The users who may not both have the role active.
+    pub user_conflicts: UserPairs,
+    /// The users who may not share an assignment of the role.
+    pub assignment_conflicts: UserPairs,
     /// By role: how many users may be authorised for it.
     pub max_users_of_role: Vec<Option<u8>>,
     /// By user: for how many roles the user may be authorised.
@@ -115,6 +122,7 @@ impl Policy {
             static_conflicts: vec![0; roles],
             dynamic_conflicts: vec![0; roles],
             user_conflicts: vec![vec![0; users]; roles],
+            assignment_conflicts: vec![vec![0; users]; roles],
             max_users_of_role: vec![None; roles],
             max_roles_of_user: vec![None; users],
             max_active_of_user: vec![None; users],
@@ -178,28 +186,15 @@ impl Policy {
                 self.dynamic_conflicts[b] |= role_bit(a);
             }
             (kind::CONFLICTING_USERS, &[role, a, b]) => {
-                let (role, a, b) = (self.role(role)?, self.user(a)?, self.user(b)?);
-                if a == b {
-                    return Err(Fault::Equal);
-                }
-                self.user_conflicts[role][a] |= user_bit(b);
-                self.user_conflicts[role][b] |= user_bit(a);
+                let (role, a, b) = self.user_pair(role, a, b)?;
+                enter_users(&mut self.user_conflicts[role], a, b);
             }
-            (kind::USERS_OF_ROLE, &[role, limit]) => {
-                let role = self.role(role)?;
-                set_limit(&mut self.max_users_of_role[role], limit)?;
+            (kind::ASSIGNMENT_CONFLICT, &[role, a, b]) => {
+                let (role, a, b) = self.user_pair(role, a, b)?;
+                enter_users(&mut self.assignment_conflicts[role], a, b);
             }
-            (kind::ROLES_OF_USER, &[user, limit]) => {
-                let user = self.user(user)?;
-                set_limit(&mut self.max_roles_of_user[user], limit)?;
-            }
-            (kind::ACTIVE_OF_USER, &[user, limit]) => {
-                let user = self.user(user)?;
-                set_limit(&mut self.max_active_of_user[user], limit)?;
-            }
-            (kind::SESSIONS_OF_ROLE, &[role, limit]) => {
-                let role = self.role(role)?;
-                set_limit(&mut self.max_sessions_of_role[role], limit)?;
+            (kind::USERS_OF_ROLE..=kind::SESSIONS_OF_ROLE, &[subject, limit]) => {
+                set_limit(self.limit_of(kind, subject)?, limit)?;
             }
             (kind::REQUIRES, &[condition, role, required]) => {
                 let condition = Condition::from_byte(condition).ok_or(Fault::OutOfRange)?;
@@ -217,6 +212,32 @@ impl Policy {
             _ => unreachable!("the body has the length of its kind"),
         }
         Ok(())
+    }
+
+    /// The numbers of a record that lists two users for a role.
+    fn user_pair(&self, role: u8, a: u8, b: u8) -> Result<(usize, usize, usize), Fault> {
+        let (role, a, b) = (self.role(role)?, self.user(a)?, self.user(b)?);
+        if a == b {
+            return Err(Fault::Equal);
+        }
+        Ok((role, a, b))
+    }
+
+    /// The limit of this kind for this role or user.
+    fn limit_of(&mut self, kind: u8, subject: u8) -> Result<&mut Option<u8>, Fault> {
+        let of_role = matches!(kind, kind::USERS_OF_ROLE | kind::SESSIONS_OF_ROLE);
+        let subject = if of_role {
+            self.role(subject)?
+        } else {
+            self.user(subject)?
+        };
+        let limits = match kind {
+            kind::USERS_OF_ROLE => &mut self.max_users_of_role,
+            kind::ROLES_OF_USER => &mut self.max_roles_of_user,
+            kind::ACTIVE_OF_USER => &mut self.max_active_of_user,
+            _ => &mut self.max_sessions_of_role,
+        };
+        Ok(&mut limits[subject])
     }
 
     fn role(&self, byte: u8) -> Result<usize, Fault> {
@@ -245,6 +266,12 @@ fn below(byte: u8, count: usize) -> Result<usize, Fault> {
     }
 }
 
+/// Enters a pair of users both ways.
+fn enter_users(users: &mut [UserSet], a: usize, b: usize) {
+    users[a] |= user_bit(b);
+    users[b] |= user_bit(a);
+}
+
 fn set_limit(limit: &mut Option<u8>, value: u8) -> Result<(), Fault> {
     if limit.is_some() {
         return Err(Fault::SecondLimit);
@@ -268,10 +295,13 @@ mod tests {
         assert_eq!(fault(&[1, 2, 4, 2]), (7, 4));
         assert_eq!(fault(&[0]), (1, 0));
         assert_eq!(fault(&[1, 2, 4, 2, 32, 0, 0]), (1, 4));
-        assert_eq!(fault(&[1, 2, 4, 2, 13]), (1, 4));
+        assert_eq!(fault(&[1, 2, 4, 2, 14]), (1, 4));
         assert_eq!(fault(&[1, 2, 4]), (2, 0));
         assert_eq!(fault(&[1, 2, 4, 2, 10, 1, 0]), (2, 4));
+        assert_eq!(fault(&[1, 2, 4, 2, 13]), (2, 4));
+        assert_eq!(fault(&[1, 2, 4, 2, 13, 0, 1]), (2, 4));
         assert_eq!(fault(&[12]), (3, 0));
+        assert_eq!(fault(&[13, 0, 0, 1]), (3, 0));
         assert_eq!(fault(&[1, 2, 4, 2, 1, 2, 4, 2]), (3, 4));
         assert_eq!(fault(&[1, 0, 4, 2]), (4, 0));
         assert_eq!(fault(&[1, 65, 4, 2]), (4, 0));
@@ -281,7 +311,11 @@ mod tests {
         assert_eq!(fault(&[1, 2, 4, 2, 10, 7, 0, 0]), (4, 4));
         assert_eq!(fault(&[1, 2, 4, 2, 10, 0, 0, 0]), (4, 4));
         assert_eq!(fault(&[1, 2, 4, 2, 7, 2, 0]), (4, 4));
+        assert_eq!(fault(&[1, 2, 4, 2, 13, 4, 0, 1]), (4, 4));
+        assert_eq!(fault(&[1, 2, 4, 2, 13, 3, 2, 1]), (4, 4));
+        assert_eq!(fault(&[1, 2, 4, 2, 13, 3, 0, 2]), (4, 4));
         assert_eq!(fault(&[1, 2, 4, 2, 5, 0, 1, 1]), (5, 4));
+        assert_eq!(fault(&[1, 2, 4, 2, 13, 3, 1, 1]), (5, 4));
         assert_eq!(fault(&[1, 2, 4, 2, 11, 3, 3]), (5, 4));
         assert_eq!(fault(&[1, 2, 4, 2, 6, 3, 9, 6, 3, 9]), (6, 7));
     }
@@ -297,6 +331,8 @@ mod tests {
         // The range before the difference.
         assert_eq!(fault(&[1, 2, 4, 2, 5, 0, 2, 2]), (4, 4));
         assert_eq!(fault(&[1, 2, 4, 2, 5, 4, 1, 1]), (4, 4));
+        assert_eq!(fault(&[1, 2, 4, 2, 13, 0, 2, 2]), (4, 4));
+        assert_eq!(fault(&[1, 2, 4, 2, 13, 4, 1, 1]), (4, 4));
     }
 
     #[test]
@@ -307,7 +343,7 @@ mod tests {
             1, 2, 4, 2, 6, 1, 0, 7, 1, 255, 8, 1, 1, 9, 1, 1, 6, 0, 1, //
             2, 1, 1, 3, 2, 3, 3, 3, 2, 4, 0, 0, 10, 6, 2, 2, 10, 6, 2, 2, 11, 3, 1, 11, 3,
             1, //
-            5, 0, 1, 0, 5, 0, 0, 1, 12, 99,
+            5, 0, 1, 0, 5, 0, 0, 1, 13, 2, 0, 1, 13, 2, 1, 0, 12, 99,
         ];
         let (policy, read) = Policy::read(&bytes).unwrap();
         assert_eq!(read, bytes.len() - 1);
@@ -315,6 +351,9 @@ mod tests {
         assert_eq!(policy.max_roles_of_user, [None, Some(255)]);
         assert_eq!(policy.static_conflicts, [0, 0, 8, 4]);
         assert_eq!(policy.user_conflicts[0], [2, 1]);
+        assert_eq!(policy.user_conflicts[2], [0, 0]);
+        assert_eq!(policy.assignment_conflicts[0], [0, 0]);
+        assert_eq!(policy.assignment_conflicts[2], [2, 1]);
         assert_eq!(policy.required(2, Condition::ActiveForOwner), 4);
     }
 }

@@ -1,10 +1,11 @@
-//! The four families of rules and the house pile. They are asked about
+//! The five families of rules and the house pile. They are asked about
 //! possible events only.
 
 use crate::event::Event;
 use crate::hierarchy::Hierarchy;
 use crate::policy::{Condition, Policy};
-use crate::sets::{has_role, lowest_role, lowest_user, role_bit, roles_of, user_bit, RoleSet};
+use crate::sets::{has_role, has_user, lowest_role, lowest_user, role_bit, roles_of};
+use crate::sets::{user_bit, users_of, RoleSet};
 use crate::state::{Session, State};
 
 /// What the rules look at.
@@ -38,8 +39,9 @@ pub fn house(scene: Scene, event: Event) -> Option<Objection> {
     cardinality(scene, event)
         .map(at(1))
         .or_else(|| separation(scene, event).map(at(2)))
-        .or_else(|| precedence(scene, event).map(at(3)))
-        .or_else(|| dependency(scene, event).map(at(4)))
+        .or_else(|| assignment_conflicts(scene, event).map(at(3)))
+        .or_else(|| precedence(scene, event).map(at(4)))
+        .or_else(|| dependency(scene, event).map(at(5)))
 }
 
 /// No more than so many, counted in the state after the event.
@@ -103,6 +105,28 @@ pub fn separation(scene: Scene, event: Event) -> Option<Breach> {
         }
         _ => None,
     }
+}
+
+/// These two, not both: nobody who is listed with the user for the role holds
+/// it, or a senior or junior of it for which the two are listed too. To hold is
+/// to be assigned directly.
+pub fn assignment_conflicts(scene: Scene, event: Event) -> Option<Breach> {
+    let Scene {
+        policy,
+        hierarchy,
+        state,
+    } = scene;
+    let Event::Assign { user, role } = event else {
+        return None;
+    };
+    let is_related = |held| hierarchy.is_senior(held, role) || hierarchy.is_senior(role, held);
+    let stands_against = |&other: &usize| {
+        roles_of(state.assigned[other]).any(|held| {
+            is_related(held) && has_user(policy.assignment_conflicts[held][user], other)
+        })
+    };
+    let listed = policy.assignment_conflicts[role][user];
+    breach(48, users_of(listed).find(stands_against)?)
 }
 
 /// First that, then this: what is required stands before the event.

@@ -1,8 +1,8 @@
-//! The five questions to a policy that was read. Each is a search for the
+//! The six questions to a policy that was read. Each is a search for the
 //! lowest names that show the flaw, compared first name first.
 
 use crate::hierarchy::Hierarchy;
-use crate::policy::Policy;
+use crate::policy::{Policy, UserPairs};
 use crate::sets::{has_role, lowest_role, lowest_user, roles_of, user_bit};
 
 /// What a policy fails by, with the names that show it.
@@ -27,6 +27,14 @@ pub enum Flaw {
         lower: usize,
         higher: usize,
     },
+    /// Two users may not share an assignment of a junior, and may one of its
+    /// senior.
+    LostAssignmentConflict {
+        senior: usize,
+        junior: usize,
+        lower: usize,
+        higher: usize,
+    },
 }
 
 impl Flaw {
@@ -37,6 +45,7 @@ impl Flaw {
             Flaw::LostConflict { .. } => 13,
             Flaw::BothConflicts { .. } => 14,
             Flaw::LostUsers { .. } => 15,
+            Flaw::LostAssignmentConflict { .. } => 16,
         }
     }
 
@@ -55,6 +64,12 @@ impl Flaw {
                 junior,
                 lower,
                 higher,
+            }
+            | Flaw::LostAssignmentConflict {
+                senior,
+                junior,
+                lower,
+                higher,
             } => [senior, junior, lower, higher],
         }
     }
@@ -67,6 +82,7 @@ pub fn flaw(policy: &Policy, hierarchy: &Hierarchy) -> Option<Flaw> {
         .or_else(|| lost_conflict(policy, hierarchy))
         .or_else(|| both_conflicts(policy))
         .or_else(|| lost_users(policy, hierarchy))
+        .or_else(|| lost_assignment_conflict(policy, hierarchy))
 }
 
 fn circle(policy: &Policy, hierarchy: &Hierarchy) -> Option<Flaw> {
@@ -117,20 +133,35 @@ fn both_conflicts(policy: &Policy) -> Option<Flaw> {
 }
 
 fn lost_users(policy: &Policy, hierarchy: &Hierarchy) -> Option<Flaw> {
-    for senior in 0..policy.roles {
+    let [senior, junior, lower, higher] = lost_pair(&policy.user_conflicts, hierarchy)?;
+    Some(Flaw::LostUsers {
+        senior,
+        junior,
+        lower,
+        higher,
+    })
+}
+
+fn lost_assignment_conflict(policy: &Policy, hierarchy: &Hierarchy) -> Option<Flaw> {
+    let [senior, junior, lower, higher] = lost_pair(&policy.assignment_conflicts, hierarchy)?;
+    Some(Flaw::LostAssignmentConflict {
+        senior,
+        junior,
+        lower,
+        higher,
+    })
+}
+
+/// The lowest senior, junior and two users who are listed for the junior and
+/// not for the senior.
+fn lost_pair(listed: &UserPairs, hierarchy: &Hierarchy) -> Option<[usize; 4]> {
+    for (senior, listed_for_senior) in listed.iter().enumerate() {
         for junior in roles_of(hierarchy.juniors(senior)) {
-            for lower in 0..policy.users {
+            for (lower, listed_with_lower) in listed[junior].iter().enumerate() {
                 let above = !(user_bit(lower) | (user_bit(lower) - 1));
-                let lost = policy.user_conflicts[junior][lower]
-                    & !policy.user_conflicts[senior][lower]
-                    & above;
+                let lost = listed_with_lower & !listed_for_senior[lower] & above;
                 if let Some(higher) = lowest_user(lost) {
-                    return Some(Flaw::LostUsers {
-                        senior,
-                        junior,
-                        lower,
-                        higher,
-                    });
+                    return Some([senior, junior, lower, higher]);
                 }
             }
         }
