@@ -216,17 +216,19 @@ fn ask_whether_exact(scene: Scene, seniority: &[Vec<bool>], event: Event) {
     assert_eq!(admitted, allowed, "{event:?}");
 }
 
+/// Generated inputs whose policy passes, and which are not too long to look
+/// through.
+fn passing_inputs(seed: u64) -> impl Iterator<Item = Vec<u8>> {
+    (0..300)
+        .map(move |index| generate::input(seed, index))
+        .filter(|input| input.len() <= INPUT_LIMIT / 4 && monitor(input).is_some())
+}
+
 #[test]
 fn every_state_fits_and_four_families_are_exact() {
     let mut decided = 0;
-    for index in 0..300 {
-        let input = generate::input(7, index);
-        if input.len() > INPUT_LIMIT / 4 {
-            continue;
-        }
-        let Some((mut monitor, mut rest)) = monitor(&input) else {
-            continue;
-        };
+    for input in passing_inputs(7) {
+        let (mut monitor, mut rest) = monitor(&input).expect("its policy passes");
         let policy = monitor.policy().clone();
         let seniority = seniority(&policy);
         // The large ones are slow to look through.
@@ -327,14 +329,8 @@ impl Assignments {
 #[test]
 fn assignment_conflicts_name_the_lowest_other_user() {
     let mut counts = Assignments::default();
-    for index in 0..300 {
-        let input = generate::input(10, index);
-        if input.len() > INPUT_LIMIT / 4 {
-            continue;
-        }
-        let Some((mut monitor, mut rest)) = monitor(&input) else {
-            continue;
-        };
+    for input in passing_inputs(10) {
+        let (mut monitor, mut rest) = monitor(&input).expect("its policy passes");
         let policy = monitor.policy().clone();
         let seniority = seniority(&policy);
         let mut refused = Vec::new();
