@@ -1,10 +1,11 @@
 -- Cardinality: limits on who is authorised for what, and on what is active. Assumes nothing.
 --   users_of, roles_of   the users authorised for a role, the roles authorised for a user; with the
 --                        seats of a user and the sessions using a role, what the limits bound
+--   SeatsWithin          no user takes more seats than the limit allows, said of sessions and roles
 --   newly_authorised     the roles for which a user with these roles assigned was not authorised
 --   violation_of         the first question that a change fails: of what is gained by it, put to
 --                        the state after it
-use Rattle.std.specs.Prelude.{◌≡◌, ℕ, Bool, true, List, not, ◌&&◌, None, Option}
+use Rattle.std.specs.Prelude.{◌≡◌, ℕ, ◌≤◌, Bool, true, List, not, ◌&&◌, Some, None, Option}
 use Rattle.std.specs.Option.{option_map, option_or}
 use Rattle.sets.specs.First.{first_below}
 use Rattle.sets.specs.Sets.{has, count_below, difference}
@@ -21,9 +22,10 @@ use Rattle.monitor.specs.Cells.{authorised_roles, seats, using}
 use Rattle.monitor.specs.Changes.{applied, gained}
 use Rattle.monitor.specs.Meaning.{Meaning}
 use Rattle.monitor.specs.Sessions.{owner}
+use Rattle.monitor.specs.Standing.{is_seat, pairs_below}
 use Rattle.families.specs.Family.{family, by_change, if_any}
 use Rattle.families.specs.declared.cardinality.Violation.{Violation}
-use Rattle.families.specs.declared.cardinality.Violation.TheVariants.{UsersOfRole, RolesOfUser, ActiveOfUser, SessionsOfRole}
+use Rattle.families.specs.declared.cardinality.Violation.TheVariants.{UsersOfRole, RolesOfUser, SeatsOfUser, SessionsOfRole}
 
 -- of the authorised roles of each user
 abbrev pub users_of : List RoleSet → ℕ → ℕ
@@ -36,8 +38,13 @@ roles_of authorised u = count_below 32 (holds authorised u)
 pub record WithinLimits (t : Tables) (c : Cells) : Type 0 where
   pub users : (r : ℕ) → within (limit_of_users t.limits r) (users_of c.authorised r) ≡ true
   pub roles : (u : ℕ) → within (limit_of_roles t.limits u) (roles_of c.authorised u) ≡ true
-  pub active : (u : ℕ) → within (limit_of_active t.limits u) (seats c u) ≡ true
+  pub seats : (u : ℕ) → within (limit_of_active t.limits u) (seats c u) ≡ true
   pub sessions : (r : ℕ) → within (limit_of_sessions t.limits r) (using c r) ≡ true
+
+-- of each user with a limit, at most so many pairs of a session of theirs and a role active in it
+abbrev pub SeatsWithin : Tables → Cells → Type 0
+SeatsWithin t c = (u most : ℕ) → limit_of_active t.limits u ≡ Some most
+    → pairs_below t.sizes.sessions 32 (is_seat c u) ≤ most
 
 abbrev pub newly_authorised : Tables → Cells → ℕ → RoleSet → ℕ
 newly_authorised t c u roles =
@@ -67,7 +74,7 @@ over_authorised t authorised u roles =
 -- 43 and 44, of a state in which these roles have become active for the user
 abbrev pub over_active : Tables → Cells → ℕ → ℕ → Option Violation
 over_active t c u roles =
-    question (within (limit_of_active t.limits u) (seats c u)) (ActiveOfUser u)
+    question (within (limit_of_active t.limits u) (seats c u)) (SeatsOfUser u)
     (option_map SessionsOfRole (over_sessions t c roles))
 
 abbrev pub violation_of : Tables → Cells → Change → Option Violation
@@ -82,13 +89,13 @@ violation_of t c (Seated s x) =
 abbrev pub violation_number : Violation → ℕ
 violation_number (UsersOfRole r) = 41
 violation_number (RolesOfUser u) = 42
-violation_number (ActiveOfUser u) = 43
+violation_number (SeatsOfUser u) = 43
 violation_number (SessionsOfRole r) = 44
 
 abbrev pub violation_subject : Violation → ℕ
 violation_subject (UsersOfRole r) = r
 violation_subject (RolesOfUser u) = u
-violation_subject (ActiveOfUser u) = u
+violation_subject (SeatsOfUser u) = u
 violation_subject (SessionsOfRole r) = r
 
 abbrev pub cardinality : Meaning

@@ -19,16 +19,18 @@ use Rattle.monitor.specs.declared.sessions.Whose.TheVariants.{User}
 use Rattle.monitor.specs.declared.states.Cells.{Cells}
 use Rattle.monitor.specs.Authority.{authority_of, Fits}
 use Rattle.monitor.specs.AuthorityLaws.{authority_of-below, authorised-below}
-use Rattle.monitor.specs.Cells.{authorised_roles, is_authorised, is_active_for, seats, using, blank}
-use Rattle.monitor.specs.ChangeLaws.{MayHave, MayStand, MayChange, possible_may, gained-has, low_after, active_since, authorised-own, authorised-other}
+use Rattle.monitor.specs.Cells.{authorised_roles, is_authorised, session_at, seats, using, blank}
+use Rattle.monitor.specs.ChangeLaws.{MayHave, MayStand, MayChange, possible_may, gained-has, low_after, in_place, where_since, authorised-own, authorised-other}
 use Rattle.monitor.specs.Changes.{change_of, applied, gained}
 use Rattle.monitor.specs.CountLaws.{using_change}
 use Rattle.monitor.specs.Meaning.{Law}
-use Rattle.monitor.specs.NewStateLaws.{none_active, none_using, nobody_authorised}
-use Rattle.monitor.specs.Sessions.{active, is_open, owner, tally}
+use Rattle.monitor.specs.NewStateLaws.{no_seats_taken, none_using, nobody_authorised}
+use Rattle.monitor.specs.SessionLaws.{seats_in_set}
+use Rattle.monitor.specs.Sessions.{active, active_where, is_open, owner, tally}
+use Rattle.monitor.specs.StandingLaws.{told_seats}
 use Rattle.families.specs.declared.cardinality.Violation.{Violation}
-use Rattle.families.specs.declared.cardinality.Violation.TheVariants.{UsersOfRole, RolesOfUser, ActiveOfUser, SessionsOfRole}
-use Rattle.families.specs.Cardinality.{users_of, roles_of, WithinLimits, newly_authorised, is_over_users, is_over_sessions, violation_of, violation_number, cardinality}
+use Rattle.families.specs.declared.cardinality.Violation.TheVariants.{UsersOfRole, RolesOfUser, SeatsOfUser, SessionsOfRole}
+use Rattle.families.specs.Cardinality.{users_of, roles_of, WithinLimits, SeatsWithin, newly_authorised, is_over_users, is_over_sessions, violation_of, violation_number, cardinality}
 use Rattle.families.specs.Family.{Exact}
 use Rattle.families.specs.FamilyLaws.{Named, detail_named, admitted_none, none_admitted, none_if, asked_if, not_zero}
 use Rattle.families.specs.HousePiles.{BelowOwn}
@@ -59,8 +61,7 @@ blank-within t = record {
       (count_none 64 (λ u. is_authorised blank u r) (λ u l. nobody_authorised u r));
   roles = λ u. none_within (limit_of_roles t.limits u) _
       (count_none 32 (is_authorised blank u) (λ r l. nobody_authorised u r));
-  active = λ u. none_within (limit_of_active t.limits u) _
-      (count_none 32 (is_active_for blank (User u)) (λ r l. none_active (User u) r));
+  seats = λ u. none_within (limit_of_active t.limits u) _ (no_seats_taken u);
   sessions = λ r. none_within (limit_of_sessions t.limits r) _ (none_using r);
 }
 
@@ -124,7 +125,7 @@ module _ (t : Tables) (w : WellFormed t) (c : Cells) (fits : Fits t c) (ok : Wit
     assigned_within e = record {
       users = users;
       roles = each;
-      active = ok.active;
+      seats = ok.seats;
       sessions = ok.sessions;
     }
       where
@@ -171,11 +172,13 @@ module _ (t : Tables) (w : WellFormed t) (c : Cells) (fits : Fits t c) (ok : Wit
     fewer_seats : (v : ℕ) → ((r : ℕ) → v ≡ owner y → has more r ≡ true → ⊥)
         → seats seated v ≤ seats c v
     fewer_seats v none =
-        count_more 32 (is_active_for seated (User v)) (is_active_for c (User v))
-        (λ r k h. elim (active_since t w c fits s y l may v r h) [
+        let here =
+        count_more 32 (has (active_where (User v) y)) (has (active_where (User v) (session_at c s)))
+        (λ r k h. elim (where_since t w c fits s y l may v r h) [
           | inl p ↦ p
           | inr p ↦ absurd (none r p.0 p.1)
-        ])
+        ]) in
+        omega (arith, seats_in_set (User v) c.sessions s y (in_place t w c fits s y l may))
 
     fewer_using : (r : ℕ) → has more r ≡ false → using seated r ≤ using c r
     fewer_using r none =
@@ -185,7 +188,7 @@ module _ (t : Tables) (w : WellFormed t) (c : Cells) (fits : Fits t c) (ok : Wit
     seated_within e = record {
       users = ok.users;
       roles = ok.roles;
-      active = each;
+      seats = each;
       sessions = sessions;
     }
       where
@@ -193,14 +196,14 @@ module _ (t : Tables) (w : WellFormed t) (c : Cells) (fits : Fits t c) (ok : Wit
         each v = elim (asked_if more _ e) [
           | inl z ↦
               less_within (limit_of_active t.limits v) _ _
-              (fewer_seats v (λ r is h. not_zero more r z h)) (ok.active v)
+              (fewer_seats v (λ r is h. not_zero more r z h)) (ok.seats v)
           | inr q ↦ elim (cases_eq v (owner y)) [
             | inl is ↦
                 let of : ℕ → Bool = λ k. within (limit_of_active t.limits k) (seats seated k) in
                 ap of is ∙ (passed _ _ _ q).0
             | inr ne ↦
                 less_within (limit_of_active t.limits v) _ _
-                (fewer_seats v (λ r is h. ne is)) (ok.active v)
+                (fewer_seats v (λ r is h. ne is)) (ok.seats v)
           ]
         ]
 
@@ -225,7 +228,7 @@ module _ (t : Tables) (w : WellFormed t) (c : Cells) (fits : Fits t c) (ok : Wit
   within_after (Enabled roles) may e = record {
     users = ok.users;
     roles = ok.roles;
-    active = ok.active;
+    seats = ok.seats;
     sessions = ok.sessions;
   }
   within_after (Seated s y) may e = seated_within s y may.0 may.1 may.2 e
@@ -244,14 +247,14 @@ no_violation t c (Enabled roles) ok = refl
 no_violation t c (Seated s y) ok =
     let after = applied t c (Seated s y) in
     let new = gained c (Seated s y) in
-    none_if new _ (passes _ _ _ (ok.active (owner y))
+    none_if new _ (passes _ _ _ (ok.seats (owner y))
     (ap (option_map SessionsOfRole)
     (first_never 32 (is_over_sessions t after new) (λ r l. never (has new r) _ (ok.sessions r)))))
 
 named : (x : Violation) → Named (violation_number x)
 named (UsersOfRole r) = (omega arith, omega arith)
 named (RolesOfUser u) = (omega arith, omega arith)
-named (ActiveOfUser u) = (omega arith, omega arith)
+named (SeatsOfUser u) = (omega arith, omega arith)
 named (SessionsOfRole r) = (omega arith, omega arith)
 
 pub cardinality_law : Law cardinality
@@ -275,3 +278,10 @@ cardinality_exact = record {
 pub cardinality_below_own : BelowOwn cardinality
 cardinality_below_own t c e law fits can ok denied =
     (detail_named violation_number named (violation_of t c (change_of c e)) denied).1
+
+-- the limit of a user bounds the pairs of a session and a role that are seats of the user's
+pub seats_within : (t : Tables) (c : Cells) → Fits t c → WithinLimits t c → SeatsWithin t c
+seats_within t c fits ok u most e =
+    let kept : within (Some most) (seats c u) ≡ true =
+    ap (λ (l : Option ℕ). within l (seats c u)) (sym e) ∙ ok.seats u in
+    omega (arith, leb-true (seats c u) most kept, told_seats t c fits u)

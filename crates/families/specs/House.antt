@@ -9,7 +9,7 @@ use Rattle.monitor.specs.Apart.{StaticallyApart}
 use Rattle.monitor.specs.Governed.{tables_of, cells_of}
 use Rattle.monitor.specs.Meaning.{Meaning, Every}
 use Rattle.monitor.specs.RunLaw.{RunLaw}
-use Rattle.families.specs.AssignmentConflicts.{Unshared, assignment_conflicts}
+use Rattle.families.specs.AssignmentConflicts.{assignment_conflicts}
 use Rattle.families.specs.Cardinality.{cardinality}
 use Rattle.families.specs.Dependency.{dependency}
 use Rattle.families.specs.Precedence.{precedence}
@@ -25,14 +25,8 @@ house_rules =
 abbrev pub KeepsApart : List Meaning → Type 0
 KeepsApart ms = (t : Tables) (c : Cells) → Every (λ m. m.allowed t c) ms → StaticallyApart t c
 
--- whatever events led to the state by the house pile, in the cells d nobody is authorised for two
--- roles in static conflict
-abbrev pub StaysApart : GovernedState → Cells → Type 0
-StaysApart g d = (es : List Event) (rs : List Answer)
-    → RunLaw house_rules (tables_of g) es rs (cells_of g) → StaticallyApart (tables_of g) d
-
--- whatever events led to the state by the house pile, in the cells d no two users share an
--- assignment that they may not
-abbrev pub StaysUnshared : GovernedState → Cells → Type 0
-StaysUnshared g d = (es : List Event) (rs : List Answer)
-    → RunLaw house_rules (tables_of g) es rs (cells_of g) → Unshared (tables_of g) d
+-- whatever events led to the state by the house pile, `Holds` is so of the policy's tables and the
+-- cells d
+abbrev pub Keeps : (Tables → Cells → Type 0) → GovernedState → Cells → Type 0
+Keeps Holds g d = (es : List Event) (rs : List Answer)
+    → RunLaw house_rules (tables_of g) es rs (cells_of g) → Holds (tables_of g) d

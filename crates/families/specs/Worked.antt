@@ -72,9 +72,17 @@ one_user_each = 1 ∷ 2 ∷ 3 ∷ 1 ∷ 2 ∷ 0 ∷ 1 ∷ 2 ∷ 0 ∷ 2 ∷ 6 �
 abbrev pub two_roles : List ℕ
 two_roles = 1 ∷ 1 ∷ 3 ∷ 1 ∷ 2 ∷ 0 ∷ 1 ∷ 7 ∷ 0 ∷ 2 ∷ 12 ∷ []
 
--- one active role for user 0
-abbrev pub one_active : List ℕ
-one_active = 1 ∷ 1 ∷ 2 ∷ 2 ∷ 8 ∷ 0 ∷ 1 ∷ 12 ∷ []
+-- one seat for user 0
+abbrev pub one_seat : List ℕ
+one_seat = 1 ∷ 1 ∷ 2 ∷ 2 ∷ 8 ∷ 0 ∷ 1 ∷ 12 ∷ []
+
+-- the same, and one session for role 0
+abbrev pub one_seat_and_session : List ℕ
+one_seat_and_session = 1 ∷ 1 ∷ 2 ∷ 2 ∷ 8 ∷ 0 ∷ 1 ∷ 9 ∷ 0 ∷ 1 ∷ 12 ∷ []
+
+-- two seats for user 0
+abbrev pub two_seats : List ℕ
+two_seats = 1 ∷ 2 ∷ 2 ∷ 3 ∷ 8 ∷ 0 ∷ 2 ∷ 12 ∷ []
 
 -- two sessions for role 0
 abbrev pub two_sessions : List ℕ
@@ -140,6 +148,12 @@ abbrev pub two_session_events : List Event → List Event
 two_session_events more =
     Assign 0 0 ∷ Assign 0 1 ∷ Enable 0 ∷ Enable 1 ∷ Open 0 0 ∷ Open 1 0 ∷ more
 
+-- users 0 and 1 may activate 0 and 1, user 0 in sessions 0 and 1, user 1 in session 2
+abbrev pub seat_events : List Event → List Event
+seat_events more =
+    Assign 0 0 ∷ Assign 0 1 ∷ Assign 1 0 ∷ Assign 1 1 ∷ Enable 0 ∷ Enable 1
+    ∷ Open 0 0 ∷ Open 1 0 ∷ Open 2 1 ∷ more
+
 -- user 0 may activate 0 in sessions 0, 1 and 2
 abbrev pub three_session_events : List Event → List Event
 three_session_events more = Assign 0 0 ∷ Enable 0 ∷ Open 0 0 ∷ Open 1 0 ∷ Open 2 0 ∷ more
@@ -177,12 +191,32 @@ pub record WorkedRulings : Type 0 where
   -- 42: inherited roles count
   pub roles_at_limit : IsRuled two_roles [] (Assign 0 0) admitted
   pub roles_over : IsRuled two_roles (Assign 0 0 ∷ []) (Assign 0 2) (refused 42 0 1)
-  -- 43: over all sessions of the user, the same role counts once
-  pub active_at_limit : IsRuled one_active (two_session_events []) (Activate 0 0) admitted
-  pub active_same_role : IsRuled one_active (two_session_events (Activate 0 0 ∷ []))
-      (Activate 1 0) admitted
-  pub active_over : IsRuled one_active (two_session_events (Activate 0 0 ∷ []))
+  -- 43: a seat for each role in each session of the user
+  pub seats_at_limit : IsRuled one_seat (two_session_events []) (Activate 0 0) admitted
+  pub same_role_elsewhere : IsRuled one_seat (two_session_events (Activate 0 0 ∷ []))
+      (Activate 1 0) (refused 43 0 1)
+  pub other_role_elsewhere : IsRuled one_seat (two_session_events (Activate 0 0 ∷ []))
       (Activate 1 1) (refused 43 0 1)
+  pub other_role_beside : IsRuled one_seat (two_session_events (Activate 0 0 ∷ []))
+      (Activate 0 1) (refused 43 0 1)
+  pub second_seat_beside : IsRuled two_seats (seat_events (Activate 0 0 ∷ []))
+      (Activate 0 1) admitted
+  pub third_seat_elsewhere : IsRuled two_seats (seat_events (Activate 0 0 ∷ Activate 0 1 ∷ []))
+      (Activate 1 0) (refused 43 0 1)
+  -- a seat is free again after a deactivation, and after a closing
+  pub seat_free_by_deactivation : IsRuled two_seats
+      (seat_events (Activate 0 0 ∷ Activate 0 1 ∷ Deactivate 0 1 ∷ []))
+      (Activate 1 0) admitted
+  pub seats_free_by_closing : IsRuled two_seats
+      (seat_events (Activate 0 0 ∷ Activate 0 1 ∷ Close 0 ∷ []))
+      (Activate 1 0) admitted
+  -- the seats of another user take none of the user's
+  pub seats_of_another : IsRuled two_seats
+      (seat_events (Activate 2 0 ∷ Activate 2 1 ∷ Activate 0 0 ∷ []))
+      (Activate 1 0) admitted
+  -- asked before 44
+  pub seats_name_first : IsRuled one_seat_and_session (two_session_events (Activate 0 0 ∷ []))
+      (Activate 1 0) (refused 43 0 1)
   -- 44: the second session, and a third
   pub sessions_at_limit : IsRuled two_sessions (three_session_events (Activate 0 0 ∷ []))
       (Activate 1 0) admitted
@@ -297,11 +331,11 @@ twice_events = 32 ∷ 0 ∷ 0 ∷ 34 ∷ 0 ∷ 36 ∷ 0 ∷ 0 ∷ 36 ∷ 1 ∷ 0
 abbrev pub twice_rows : List Row
 twice_rows =
     row 32 0 0 0 0 ∷ row 34 0 0 0 0 ∷ row 36 0 0 0 0 ∷ row 36 0 0 0 0
-    ∷ row 38 0 0 0 0 ∷ row 38 0 0 0 0 ∷ []
+    ∷ row 38 0 0 0 0 ∷ row 38 43 0 1 0 ∷ []
 
 pub record WorkedCases : Type 0 where
   pub policies : Worked
   pub runs_sample : RunGives sample sample_events sample_rows
-  -- limit 1 of active roles: the same role in two sessions of one user is granted
-  pub runs_twice : RunGives one_active twice_events twice_rows
+  -- limit 1 of seats: the same role in a second session of the user is refused
+  pub runs_twice : RunGives one_seat twice_events twice_rows
   pub rulings : WorkedRulings

@@ -20,7 +20,6 @@ use monitor::changes::Change;
 use monitor::governed::authority;
 use monitor::possible::PossibleEvent;
 use monitor::rules::Rule;
-use monitor::sessions::Whose;
 use policy::asking::{check, none_of};
 use policy::rows::{at_or, put};
 use policy::tables::Tables;
@@ -36,9 +35,9 @@ pub enum Violation {
     /// The user would be authorised for more roles than their limit: 42.
     #[error("user {user} would be authorised for more roles than the limit")]
     RolesOfUser { user: u8 },
-    /// The user would have more roles active than their limit: 43.
-    #[error("user {user} would have more roles active than the limit")]
-    ActiveOfUser { user: u8 },
+    /// The user would take more seats than their limit: 43.
+    #[error("user {user} would take more seats than the limit")]
+    SeatsOfUser { user: u8 },
     /// More sessions would have the role active than its limit: 44.
     #[error("more sessions would have role {role} active than its limit")]
     SessionsOfRole { role: u8 },
@@ -52,7 +51,7 @@ impl Violation {
         match self {
             Violation::UsersOfRole { .. } => 41,
             Violation::RolesOfUser { .. } => 42,
-            Violation::ActiveOfUser { .. } => 43,
+            Violation::SeatsOfUser { .. } => 43,
             Violation::SessionsOfRole { .. } => 44,
         }
     }
@@ -63,7 +62,7 @@ impl Violation {
     {
         match self {
             Violation::UsersOfRole { role } | Violation::SessionsOfRole { role } => role,
-            Violation::RolesOfUser { user } | Violation::ActiveOfUser { user } => user,
+            Violation::RolesOfUser { user } | Violation::SeatsOfUser { user } => user,
         }
     }
 }
@@ -162,7 +161,7 @@ fn over_sessions(possible: PossibleEvent, roles: RoleSet) -> Option<u8>
     None
 }
 
-// Whether the roles active for the user are within the limit, in the state after the event.
+// Whether the seats of the user are within the limit, in the state after the event.
 fn is_within_seats(possible: PossibleEvent, user: u8) -> bool
     ensures { result ≡ within (limit_of_active (tables_of possible.entry).limits user)
         (seats (next (tables_of possible.entry) (cells_of possible.entry)
@@ -171,7 +170,7 @@ fn is_within_seats(possible: PossibleEvent, user: u8) -> bool
     let Some(most) = possible.tables().limits.active(user) else {
         return true;
     };
-    possible.active_after(Whose::User { user }).count() <= u32::from(most)
+    possible.seats_after(user) <= u32::from(most)
 }
 
 // The questions where these roles have become active for the user, in the state after the event.
@@ -182,7 +181,7 @@ fn check_active(possible: PossibleEvent, user: u8, new: RoleSet) -> Result<(), V
 {
     check(
         is_within_seats(possible, user),
-        Violation::ActiveOfUser { user },
+        Violation::SeatsOfUser { user },
     )?;
     none_of(over_sessions(possible, new)).map_err(|role| Violation::SessionsOfRole { role })
 }

@@ -3,19 +3,19 @@
 ghost use Rattle.std.specs.Prelude.{◌≡◌, ◌+◌, ◌<◌, ◌≤◌, [], ◌∷◌, ◌++◌, length, OnErr};
 ghost use Rattle.policy.specs.declared.tables.Tables.{Tables};
 ghost use Rattle.policy.specs.Approved as approved;
-ghost use Rattle.monitor.specs.Apart.{SeparatesAt};
+ghost use Rattle.monitor.specs.Apart.{SeparatesAt, StaticallyApart};
 ghost use Rattle.monitor.specs.Cells.{blank};
 ghost use Rattle.monitor.specs.Governed.{policy_of, cells_of, answer_to, state_after, Extends};
 ghost use Rattle.monitor.specs.Meaning.{Every};
 ghost use Rattle.monitor.specs.Monitors.{state_of, SamePolicy};
 ghost use Rattle.monitor.specs.Own.{Confined};
 ghost use Rattle.monitor.specs.RunLaw.{RunLaw};
-ghost use Rattle.families.specs.AssignmentConflicts.{assignment_conflicts};
-ghost use Rattle.families.specs.Cardinality.{cardinality};
+ghost use Rattle.families.specs.AssignmentConflicts.{assignment_conflicts, Unshared};
+ghost use Rattle.families.specs.Cardinality.{cardinality, SeatsWithin};
 ghost use Rattle.families.specs.Dependency.{dependency};
 ghost use Rattle.families.specs.Family.{Exact};
 ghost use Rattle.families.specs.Holdings.{JudgesHoldings};
-ghost use Rattle.families.specs.House.{house_rules, KeepsApart, StaysApart, StaysUnshared};
+ghost use Rattle.families.specs.House.{house_rules, KeepsApart, Keeps};
 ghost use Rattle.families.specs.HousePiles.{house_pile, BelowOwn, NumbersTell};
 ghost use Rattle.families.specs.Precedence.{precedence};
 ghost use Rattle.families.specs.Requirements.{AdmitsWhatStands};
@@ -131,7 +131,8 @@ pub fn begin(checked: Checked) -> Monitor<House>
 }
 
 /// Decides an event by the house pile. Whatever events led here, nobody is authorised afterwards
-/// for two roles in static conflict, and no two users share an assignment that they may not.
+/// for two roles in static conflict, no two users share an assignment that they may not, and nobody
+/// takes more seats than their limit allows.
 ///
 /// # Errors
 ///
@@ -144,8 +145,9 @@ pub fn decide(monitor: &mut Monitor<House>, event: Event) -> Answer
     ensures refused { OnErr result (monitor.new ≡ monitor.old) }
     ensures law { Extends house_rules (state_of monitor.old) (event ∷ []) (result ∷ [])
         (cells_of (state_of monitor.new)) }
-    ensures apart { StaysApart (state_of monitor.old) (cells_of (state_of monitor.new)) }
-    ensures unshared { StaysUnshared (state_of monitor.old) (cells_of (state_of monitor.new)) }
+    ensures apart { Keeps StaticallyApart (state_of monitor.old) (cells_of (state_of monitor.new)) }
+    ensures unshared { Keeps Unshared (state_of monitor.old) (cells_of (state_of monitor.new)) }
+    ensures seats { Keeps SeatsWithin (state_of monitor.old) (cells_of (state_of monitor.new)) }
 {
     monitor.decide(event)
 }

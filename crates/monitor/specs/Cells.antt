@@ -2,18 +2,18 @@
 --   is_assigned ..      what stands in the cells
 --   assigned_in         the roles assigned to some user
 --   is_active_for       a role is active in anyone's sessions, or in a user's
---   seats, using        what a limit bounds: the different roles active for a user, and the
---                       sessions that have a role active
+--   seats, using        what limits bound: the seats of a user, pairs of a session of theirs and a
+--                       role active in it; and the sessions that have a role active
 use Rattle.std.specs.Prelude.{◌≡◌, ℕ, ◌<◌, Bool, true, List, [], ◌∷◌, length, replicate, slice_index_or}
 use Rattle.sets.specs.Aliases.{RoleSet}
-use Rattle.sets.specs.Sets.{has, union, count_below}
+use Rattle.sets.specs.Sets.{has, union}
 use Rattle.policy.specs.Entries.{no_roles, holds}
 use Rattle.monitor.specs.declared.states.Cells.{Cells}
 use Rattle.monitor.specs.declared.sessions.Session.{Session}
 use Rattle.monitor.specs.declared.sessions.Session.TheVariants.{Closed}
 use Rattle.monitor.specs.declared.sessions.Whose.{Whose}
 use Rattle.monitor.specs.declared.sessions.Whose.TheVariants.{User}
-use Rattle.monitor.specs.Sessions.{active, owner, active_in, sessions_using}
+use Rattle.monitor.specs.Sessions.{active, owner, active_in, seats_in, sessions_using}
 
 abbrev pub session_at : Cells → ℕ → Session
 session_at c s = slice_index_or c.sessions s Closed
@@ -45,7 +45,7 @@ abbrev pub is_active_for : Cells → Whose → ℕ → Bool
 is_active_for c w r = has (active_in w c.sessions) r
 
 abbrev pub seats : Cells → ℕ → ℕ
-seats c u = count_below 32 (is_active_for c (User u))
+seats c u = seats_in (User u) c.sessions
 
 abbrev pub using : Cells → ℕ → ℕ
 using c r = sessions_using c.sessions r

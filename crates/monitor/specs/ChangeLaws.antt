@@ -1,7 +1,7 @@
 -- A change that may be made leads from a state that fits the policy to one that fits it, and so
 -- does every possible event; and what a user gains by it. It proves, for the crates above, and
 -- assumes nothing.
-use Rattle.std.proofs.Common.{◌≡◌, ℕ, ◌<◌, true, false, not, ◌&&◌, eqb, ltb, ◌⊎◌, get_or, set, None, sym, refl, ap, ◌∙◌, inl, inr, arith}
+use Rattle.std.proofs.Common.{◌≡◌, ℕ, ◌<◌, true, false, not, ◌&&◌, eqb, ltb, ◌⊎◌, length, get_or, set, None, sym, refl, ap, ◌∙◌, inl, inr, arith}
 use Rattle.std.proofs.lemmas.List.{length-set, get_or-set_same, get_or-set_other}
 use Rattle.std.proofs.lemmas.Bool.{both_ways, cases_Bool, cases_eq, eqb-true, eq-eqb, ne_eqb, ltb-true, lt-ltb, and_parts, and_from, or_cases, or_left, or_right, not-true, not_from_false}
 use Rattle.std.specs.Prelude.{◌≢◌}
@@ -29,7 +29,7 @@ use Rattle.monitor.specs.Cells.{assigned_roles, authorised_roles, session_at, is
 use Rattle.monitor.specs.Changes.{with_role, without_role, change_of, applied, next, gained, lost}
 use Rattle.monitor.specs.Possible.{lost_authority, session_question, Possible}
 use Rattle.monitor.specs.AuthorityLaws.{authority_of_more, active-below}
-use Rattle.monitor.specs.SessionLaws.{active-counted, active-set, active_put, owner_is_meant, meant_is_owner, where_parts}
+use Rattle.monitor.specs.SessionLaws.{active-counted, active-set, active_put, owner_is_meant, meant_is_owner, where_parts, where_from}
 use Rattle.monitor.specs.Sessions.{is_open, active, owner, is_meant, active_where, with_active}
 
 -- two numbers in range
@@ -339,11 +339,11 @@ module _ (t : Tables) (w : WellFormed t) (c : Cells) (fits : Fits t c) where
     abbrev pub seated : Cells
     seated = applied t c (Seated s y)
 
-    in_place : s < 64
-    in_place = omega (arith, l, w.sessions_sized.1)
+    pub in_place : s < length c.sessions
+    in_place = omega (arith, l, w.sessions_sized.1, wide.2)
 
     pub seated-there : session_at seated s ≡ y
-    seated-there = get_or-set_same c.sessions s y session.Closed (omega (arith, in_place, wide.2))
+    seated-there = get_or-set_same c.sessions s y session.Closed in_place
 
     -- only roles of the policy are active in it, and in the one before
     pub low_after : (k : ℕ) → has (active y) k ≡ true → k < 32
@@ -368,21 +368,30 @@ module _ (t : Tables) (w : WellFormed t) (c : Cells) (fits : Fits t c) where
         (active_where (User (owner (session_at c s))) y) k low_before
         (λ j h. low_after j (where_parts (User (owner (session_at c s))) y j h).1)
 
+    -- what is active in it for a user was so in the one before, or gained by the user, its owner
+    pub where_since : (u k : ℕ) → has (active_where (User u) y) k ≡ true
+        → (has (active_where (User u) (session_at c s)) k ≡ true)
+        ⊎ ((u ≡ owner y) × (has (gained c (Seated s y)) k ≡ true))
+    where_since u k h =
+        let p = where_parts (User u) y k h in
+        let e : u ≡ owner y = meant_is_owner u y p.0 in
+        elim (cases_Bool (has (active_where (User (owner y)) (session_at c s)) k)) [
+          | inl b ↦ inl (ap (λ o. has (active_where (User o) (session_at c s)) k) e ∙ b)
+          | inr b ↦ inr (e, gained-has k ∙ and_from (has (active y) k) _ p.1 (not_from_false _ b))
+        ]
+
     -- what is active then for a user was so before, or the user is the owner and gained it
     pub active_since : (u k : ℕ) → is_active_for seated (User u) k ≡ true
         → (is_active_for c (User u) k ≡ true)
         ⊎ ((u ≡ owner y) × (has (gained c (Seated s y)) k ≡ true))
     active_since u k h = elim (active-set (User u) c.sessions s k y h) [
       | inl q ↦ inl q
-      | inr q ↦
-          let e : u ≡ owner y = meant_is_owner u y q.0 in
-          elim (cases_Bool (has (active_where (User (owner y)) (session_at c s)) k)) [
-            | inl b ↦
-                let p = where_parts (User (owner y)) (session_at c s) k b in
-                inl (ap (λ o. is_active_for c (User o) k) e
-                ∙ active-counted (User (owner y)) c.sessions s k p.0 p.1)
-            | inr b ↦ inr (e, gained-has k ∙ and_from (has (active y) k) _ q.1 (not_from_false _ b))
-          ]
+      | inr q ↦ elim (where_since u k (where_from (User u) y k q.0 q.1)) [
+        | inl b ↦
+            let p = where_parts (User u) (session_at c s) k b in
+            inl (active-counted (User u) c.sessions s k p.0 p.1)
+        | inr g ↦ inr g
+      ]
     ]
 
     -- and what is gained is active then for the owner
@@ -390,8 +399,7 @@ module _ (t : Tables) (w : WellFormed t) (c : Cells) (fits : Fits t c) where
         → is_active_for seated (User (owner y)) k ≡ true
     gained_active k h =
         let a = (and_parts (has (active y) k) _ (sym (gained-has k) ∙ h)).0 in
-        active_put (User (owner y)) c.sessions s k y (omega (arith, in_place, wide.2))
-        (owner_is_meant y k a) a
+        active_put (User (owner y)) c.sessions s k y in_place (owner_is_meant y k a) a
 
   -- what a user with other roles assigned is authorised for
 

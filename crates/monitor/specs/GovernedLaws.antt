@@ -1,6 +1,6 @@
 -- A governed state's policy is a checked one, and the state fits it, also after a possible event.
 -- It proves, for the crates above, and assumes nothing.
-use Rattle.std.proofs.Common.{◌≡◌, ℕ, None, take, set, sym, ap, ◌∙◌, subst}
+use Rattle.std.proofs.Common.{◌≡◌, ℕ, ◌+◌, ◌<◌, None, length, take, set, sym, ap, ◌∙◌, subst}
 use Rattle.std.proofs.Math.Seq.{take-set-lt}
 use Rattle.records.specs.declared.event.Event.{Event}
 use Rattle.policy.specs.declared.approved.Approved.{Approved}
@@ -12,7 +12,7 @@ use Rattle.monitor.specs.declared.states.Cells.{Cells}
 use Rattle.monitor.specs.declared.governed.GovernedState.{GovernedState}
 use Rattle.monitor.specs.declared.states.State.{State}
 use Rattle.monitor.specs.Authority.{Fits}
-use Rattle.monitor.specs.Cells.{Sound}
+use Rattle.monitor.specs.Cells.{Sound, session_at}
 use Rattle.monitor.specs.declared.changes.Change.TheVariants.{Seated}
 use Rattle.monitor.specs.declared.sessions.Session.{Session}
 use Rattle.monitor.specs.declared.sessions.Whose.{Whose}
@@ -20,10 +20,10 @@ use Rattle.monitor.specs.Changes.{change_of, applied, next}
 use Rattle.monitor.specs.Governed.{tables_of, cells_of}
 use Rattle.monitor.specs.Meaning.{Lawful}
 use Rattle.monitor.specs.Possible.{Possible, impossibility}
-use Rattle.monitor.specs.SessionLaws.{active_in-take, using-take}
-use Rattle.monitor.specs.Sessions.{active_in, sessions_using}
+use Rattle.monitor.specs.SessionLaws.{active_in-take, seats_in_set, seats_in-take, using-take}
+use Rattle.monitor.specs.Sessions.{active_in, seats_where, seats_in, sessions_using}
 use Rattle.monitor.specs.AuthorityLaws.{unused}
-use Rattle.monitor.specs.ChangeLaws.{MayChange, change_fits, possible_may, next_fits}
+use Rattle.monitor.specs.ChangeLaws.{MayChange, change_fits, possible_may, next_fits, in_place}
 
 pub state-sound : (s : State) → Sound s.cells
 state-sound s = record { wide = s.wide; owned = s.owned; live = s.live; entitled = s.entitled }
@@ -61,6 +61,13 @@ sessions-active_in g w =
     active_in-take w (tables_of g).sizes.sessions (cells_of g).sessions
     (unused (tables_of g) (cells_of g) (governed_fits g))
 
+pub sessions-seats_in : (g : GovernedState) (w : Whose)
+    → seats_in w (take (tables_of g).sizes.sessions (cells_of g).sessions)
+    ≡ seats_in w (cells_of g).sessions
+sessions-seats_in g w =
+    seats_in-take w (tables_of g).sizes.sessions (cells_of g).sessions
+    (unused (tables_of g) (cells_of g) (governed_fits g))
+
 pub sessions-using : (g : GovernedState) (r : ℕ)
     → sessions_using (take (tables_of g).sizes.sessions (cells_of g).sessions) r
     ≡ sessions_using (cells_of g).sessions r
@@ -89,8 +96,19 @@ module _ (g : GovernedState) (e : Event)
       → active_in w (set (take t.sizes.sessions c.sessions) s y) ≡ active_in w (next t c e).sessions
   sessions-active_in-set w =
       ap (active_in w) (sym (take-set-lt t.sizes.sessions c.sessions s y may.0))
-      ∙ active_in-take w t.sizes.sessions (set c.sessions s y) (unused t (applied t c (Seated s y)) fits)
+      ∙ active_in-take w t.sizes.sessions (set c.sessions s y)
+      (unused t (applied t c (Seated s y)) fits)
       ∙ ap (λ d. active_in w (applied t c d).sessions) is
+
+  pub sessions-in_place : s < length c.sessions
+  sessions-in_place = in_place t (governed_formed g) c (governed_fits g) s y may.0 may.1
+
+  pub seats_in-next : (w : Whose)
+      → seats_in w (next t c e).sessions + seats_where w (session_at c s)
+      ≡ seats_in w c.sessions + seats_where w y
+  seats_in-next w =
+      ap (λ d. seats_in w (applied t c d).sessions + seats_where w (session_at c s)) (sym is)
+      ∙ seats_in_set w c.sessions s y sessions-in_place
 
   pub sessions-using-set : (r : ℕ)
       → sessions_using (set (take t.sizes.sessions c.sessions) s y) r

@@ -9,10 +9,11 @@ use Rattle.policy.specs.Entries.{no_roles}
 use Rattle.policy.specs.RowsUnionLaws.{rows_union_none}
 use Rattle.policy.specs.RowLaws.{replicate_each}
 use Rattle.monitor.specs.declared.sessions.Session.TheVariants.{Closed}
+use Rattle.monitor.specs.declared.sessions.Whose.TheVariants.{User}
 use Rattle.monitor.specs.Authority.{authority_of, Fits}
 use Rattle.monitor.specs.declared.sessions.Whose.{Whose}
-use Rattle.monitor.specs.Cells.{session_at, blank, is_active_for, is_assigned, is_authorised, using}
-use Rattle.monitor.specs.SessionLaws.{active_found, using_none}
+use Rattle.monitor.specs.Cells.{session_at, blank, is_active_for, is_assigned, is_authorised, seats, using}
+use Rattle.monitor.specs.SessionLaws.{active_found, seats_in_none, using_none}
 use Rattle.monitor.specs.Sessions.{is_open, active, owner}
 
 -- every session of a new state is closed, and nobody has a role
@@ -54,6 +55,9 @@ pub none_active : (w : Whose) (r : ℕ) → is_active_for blank w r ≡ false
 none_active w r =
     false_from_ne_true _
     (λ h. let f = active_found w blank.sessions r h in none r _ (ap active (all_closed f.0)) f.3)
+
+pub no_seats_taken : (u : ℕ) → seats blank u ≡ 0
+no_seats_taken u = seats_in_none (User u) blank.sessions (λ s. ap active (all_closed s))
 
 pub none_using : (r : ℕ) → using blank r ≡ 0
 none_using r =

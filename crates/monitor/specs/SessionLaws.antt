@@ -1,8 +1,10 @@
 -- What is active in a list of sessions, one session more or another in the place of one. It proves,
 -- for the crates above, and assumes nothing.
-use Rattle.std.proofs.Common.{◌≡◌, ℕ, zero, suc, ◌+◌, ◌-◌, ◌<◌, ◌≤◌, true, false, ◌⊎◌, List, [], ◌∷◌, ◌++◌, length, get_or, take, drop, set, sym, refl, ap, ◌∙◌, inl, inr, arith}
+use Rattle.std.proofs.Common.{◌≡◌, ℕ, zero, suc, ◌+◌, ◌-◌, ◌*◌, ◌<◌, ◌≤◌, true, false, ◌⊎◌, List, [], ◌∷◌, ◌++◌, length, get_or, take, drop, set, sym, refl, ap, ◌∙◌, inl, inr, arith}
 use Rattle.std.proofs.lemmas.List.{get_or-set_same, get_or-set_other, set_past, set_split, take_all, length-drop}
+use Rattle.std.proofs.lemmas.List.Sums.{sum_by-cons, sum_by-le, sum_by-set, get_or-le-sum_by}
 use Rattle.std.proofs.lemmas.Bool.{both_ways, eqb-true, eq-eqb, cases_Bool, cases_eq, cases_lt, cond-true, cond-false, or_cases, or_left, or_right}
+use Rattle.sets.specs.CountLaws.{count_most, count_none}
 use Rattle.sets.specs.SetLaws.{has-zero, has-union}
 use Rattle.sets.specs.Sets.{has, union}
 use Rattle.monitor.specs.declared.sessions.Session.{Session}
@@ -10,7 +12,7 @@ use Rattle.monitor.specs.declared.sessions.Session.TheVariants.{Closed, Open}
 use Rattle.monitor.specs.declared.sessions.Whose.{Whose}
 use Rattle.monitor.specs.declared.sessions.Whose.TheVariants.{User}
 use Rattle.monitor.specs.FoldLaws.{none_with, union_assoc}
-use Rattle.monitor.specs.Sessions.{active, owner, is_meant, active_where, active_in, sessions_using, tally}
+use Rattle.monitor.specs.Sessions.{active, owner, is_meant, active_where, seats_where, active_in, seats_in, sessions_using, tally}
 
 -- a role active in a session that counts is among those active
 pub active-counted : (w : Whose) (xs : List Session) (s r : ℕ)
@@ -207,3 +209,41 @@ using-take zero xs r h =
 using-take (suc n) [] r h = refl
 using-take (suc n) (x ∷ xs) r h =
     ap (λ k. tally (has (active x) r) + k) (using-take n xs r (λ s l. h (suc s) (omega arith)))
+
+-- the seats in a list of sessions
+
+pub seats_most : (w : Whose) (x : Session) → seats_where w x ≤ 32
+seats_most w x = count_most 32 (has (active_where w x))
+
+pub seats_in_most : (w : Whose) (xs : List Session) → seats_in w xs ≤ length xs * 32
+seats_in_most w xs = sum_by-le (seats_where w) 32 xs (λ k d l. seats_most w (get_or xs k d))
+
+pub seats_in_each : (w : Whose) (xs : List Session) (s : ℕ) → s < length xs
+    → seats_where w (get_or xs s Closed) ≤ seats_in w xs
+seats_in_each w xs s l = get_or-le-sum_by (seats_where w) xs s Closed l
+
+pub seats_in_set : (w : Whose) (xs : List Session) (s : ℕ) (x : Session) → s < length xs
+    → seats_in w (set xs s x) + seats_where w (get_or xs s Closed)
+    ≡ seats_in w xs + seats_where w x
+seats_in_set w xs s x l = sum_by-set (seats_where w) xs s x Closed l
+
+no_seats : (w : Whose) (x : Session) → active x ≡ 0 → seats_where w x ≡ 0
+no_seats w x e =
+    count_none 32 (has (active_where w x))
+    (λ r l. ap (λ n. has n r) (none_where w x e) ∙ has-zero r)
+
+pub seats_in_none : (w : Whose) (xs : List Session)
+    → ((s : ℕ) → active (get_or xs s Closed) ≡ 0) → seats_in w xs ≡ 0
+seats_in_none w [] h = refl
+seats_in_none w (x ∷ xs) h =
+    let here = no_seats w x (h zero) in
+    let rest = seats_in_none w xs (λ s. h (suc s)) in
+    omega (arith, sum_by-cons (seats_where w) x xs)
+
+pub seats_in-take : (w : Whose) (n : ℕ) (xs : List Session)
+    → ((s : ℕ) → n ≤ s → active (get_or xs s Closed) ≡ 0) → seats_in w (take n xs) ≡ seats_in w xs
+seats_in-take w zero xs h = sym (seats_in_none w xs (λ s. h s (omega arith)))
+seats_in-take w (suc n) [] h = refl
+seats_in-take w (suc n) (x ∷ xs) h =
+    let rest = seats_in-take w n xs (λ s l. h (suc s) (omega arith)) in
+    omega (arith, sum_by-cons (seats_where w) x (take n xs), sum_by-cons (seats_where w) x xs)

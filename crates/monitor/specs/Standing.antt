@@ -2,7 +2,10 @@
 --   AssignedToAny   there is a user to whom the role is assigned
 --   ActiveFor       there is a session of the user's in which the role is active
 --   ActiveForAny    there is a session in which the role is active
-use Rattle.std.specs.Prelude.{◌≡◌, ℕ, true}
+--   is_seat         the session is the user's, and the role is active in it
+--   pairs_below     how many pairs of numbers, each below its bound, pass a test
+use Rattle.std.specs.Prelude.{◌≡◌, ℕ, zero, suc, ◌+◌, Bool, true, ◌&&◌, ◌==◌}
+use Rattle.sets.specs.Sets.{count_below}
 use Rattle.monitor.specs.declared.states.Cells.{Cells}
 use Rattle.monitor.specs.Cells.{is_assigned, is_active, session_at}
 use Rattle.monitor.specs.Sessions.{owner}
@@ -15,3 +18,10 @@ ActiveFor c u r = (s : ℕ) × (owner (session_at c s) ≡ u) × (is_active c s 
 
 abbrev pub ActiveForAny : Cells → ℕ → Type 0
 ActiveForAny c r = (s : ℕ) × (is_active c s r ≡ true)
+
+abbrev pub is_seat : Cells → ℕ → ℕ → ℕ → Bool
+is_seat c u s r = (owner (session_at c s) == u) && is_active c s r
+
+unfoldable pub pairs_below : ℕ → ℕ → (ℕ → ℕ → Bool) → ℕ
+pairs_below zero n f = 0
+pairs_below (suc m) n f = count_below n (f m) + pairs_below m n f

@@ -1,23 +1,26 @@
 -- The computed sets and counts say what stands for users and in sessions. It proves, for the crates
 -- above, and assumes nothing.
-use Rattle.std.proofs.Common.{◌≡◌, ℕ, zero, suc, ◌+◌, ◌≤◌, Bool, true, ◌↔◌, List, [], ◌∷◌, get_or, take, sym, refl, ap, ◌∙◌, inl, inr, arith}
-use Rattle.std.proofs.lemmas.Bool.{both_ways, cases_Bool, or_cases, or_left, or_right}
+use Rattle.std.proofs.Common.{◌≡◌, ℕ, zero, suc, ◌+◌, ◌≤◌, Bool, true, false, ◌&&◌, ◌||◌, eqb, ◌↔◌, List, [], ◌∷◌, get_or, take, sym, refl, ap, ◌∙◌, inl, inr, arith}
+use mathlib.Core.Path.{fun_ext}
+use Rattle.std.proofs.lemmas.Bool.{both_ways, cases_Bool, cond-true, cond-false, or_cases, or_left, or_right}
+use Rattle.std.proofs.lemmas.List.Sums.{sum_by-cons}
 use Rattle.sets.specs.Aliases.{RoleSet}
-use Rattle.sets.specs.Sets.{has, count_below}
+use Rattle.sets.specs.Sets.{has, union, count_below}
 use Rattle.sets.specs.SetLaws.{has-zero, has-union}
 use Rattle.sets.specs.CountLaws.{count_start, count_none}
 use Rattle.policy.specs.declared.tables.Tables.{Tables}
 use Rattle.policy.specs.Entries.{holds}
 use Rattle.monitor.specs.declared.sessions.Session.{Session}
-use Rattle.monitor.specs.declared.sessions.Session.TheVariants.{Closed}
+use Rattle.monitor.specs.declared.sessions.Session.TheVariants.{Closed, Open}
+use Rattle.monitor.specs.declared.sessions.Whose.{Whose}
 use Rattle.monitor.specs.declared.sessions.Whose.TheVariants.{Anyone, User}
 use Rattle.monitor.specs.declared.states.Cells.{Cells}
 use Rattle.monitor.specs.Authority.{Fits}
 use Rattle.monitor.specs.AuthorityLaws.{unused}
-use Rattle.monitor.specs.Cells.{assigned_in, is_active, is_active_for, session_at, using}
-use Rattle.monitor.specs.SessionLaws.{active-counted, active_found, meant_is_owner, owner_is_meant, using-take}
-use Rattle.monitor.specs.Sessions.{active, is_meant, sessions_using, tally}
-use Rattle.monitor.specs.Standing.{AssignedToAny, ActiveFor, ActiveForAny}
+use Rattle.monitor.specs.Cells.{assigned_in, is_active, is_active_for, session_at, seats, using}
+use Rattle.monitor.specs.SessionLaws.{active-counted, active_found, meant_is_owner, owner_is_meant, seats_in-take, using-take}
+use Rattle.monitor.specs.Sessions.{active, owner, is_meant, active_where, active_in, seats_where, seats_in, sessions_using, tally}
+use Rattle.monitor.specs.Standing.{AssignedToAny, ActiveFor, ActiveForAny, is_seat, pairs_below}
 
 -- assigned to some user
 
@@ -102,3 +105,89 @@ told_using t c fits r =
 
 pub told_some : (c : Cells) (r : ℕ) → (1 ≤ using c r) ↔ ActiveForAny c r
 told_some c r = (using_some c.sessions r, λ (s, h). some_using c.sessions s r h)
+
+-- how many pairs of a session and a role are a user's seats
+
+seat_has : (u : ℕ) (x : Session) (r : ℕ)
+    → has (active_where (User u) x) r ≡ (eqb (owner x) u && has (active x) r)
+seat_has u Closed r = has-zero r ∙ sym (ap (λ b. eqb 0 u && b) (has-zero r) ∙ neither (eqb 0 u))
+  where
+    neither : (b : Bool) → (b && false) ≡ false
+    neither true = refl
+    neither false = refl
+seat_has u (Open o a) r = elim (cases_Bool (eqb o u)) [
+  | inl h ↦
+      ap (λ n. has n r) (cond-true (eqb o u) a.bits 0 h) ∙ sym (ap (λ b. b && has a.bits r) h)
+  | inr h ↦
+      ap (λ n. has n r) (cond-false (eqb o u) a.bits 0 h) ∙ has-zero r
+      ∙ sym (ap (λ b. b && has a.bits r) h)
+]
+
+pairs_front : (m n : ℕ) (f : ℕ → ℕ → Bool)
+    → pairs_below (suc m) n f ≡ count_below n (f zero) + pairs_below m n (λ k. f (suc k))
+unfolding pairs_below
+pairs_front zero n f = refl
+pairs_front (suc m) n f = let ih = pairs_front m n f in omega arith
+
+abbrev is_seat_in : List Session → ℕ → ℕ → ℕ → Bool
+is_seat_in xs u s r = eqb (owner (get_or xs s Closed)) u && has (active (get_or xs s Closed)) r
+
+none_paired : (n u : ℕ) → pairs_below n 32 (is_seat_in [] u) ≡ 0
+unfolding pairs_below
+none_paired zero u = refl
+none_paired (suc n) u =
+    let none : count_below 32 (is_seat_in [] u n) ≡ 0 =
+    count_none 32 _ (λ r l. sym (seat_has u Closed r) ∙ has-zero r) in
+    let rest = none_paired n u in
+    omega arith
+
+paired : (n : ℕ) (xs : List Session) (u : ℕ)
+    → seats_in (User u) (take n xs) ≡ pairs_below n 32 (is_seat_in xs u)
+unfolding pairs_below
+paired zero xs u = refl
+paired (suc n) [] u = sym (none_paired (suc n) u)
+paired (suc n) (x ∷ xs) u =
+    let here : seats_where (User u) x ≡ count_below 32 (is_seat_in (x ∷ xs) u zero) =
+    ap (count_below 32) (fun_ext (seat_has u x)) in
+    let rest = paired n xs u in
+    omega (
+      arith,
+      sum_by-cons (seats_where (User u)) x (take n xs),
+      pairs_front n 32 (is_seat_in (x ∷ xs) u),
+    )
+
+pub told_seats : (t : Tables) (c : Cells) → Fits t c → (u : ℕ)
+    → seats c u ≡ pairs_below t.sizes.sessions 32 (is_seat c u)
+told_seats t c fits u =
+    sym (seats_in-take (User u) t.sizes.sessions c.sessions (unused t c fits))
+    ∙ paired t.sizes.sessions c.sessions u
+
+-- there are no more different roles than seats
+
+count_either : (k a b : ℕ)
+    → count_below k (has (union a b)) ≤ count_below k (has a) + count_below k (has b)
+unfolding count_below
+count_either zero a b = omega arith
+count_either (suc k) a b =
+    let rest = count_either k a b in
+    let both = ap tally (has-union a b k) in
+    let here = either (has a k) (has b k) in
+    omega arith
+  where
+    either : (x y : Bool) → tally (x || y) ≤ tally x + tally y
+    either true y = omega arith
+    either false y = omega arith
+
+different_in : (w : Whose) (xs : List Session)
+    → count_below 32 (has (active_in w xs)) ≤ seats_in w xs
+different_in w [] = let none = count_none 32 (has 0) (λ r l. has-zero r) in omega arith
+different_in w (x ∷ xs) =
+    let rest = different_in w xs in
+    omega (
+      arith,
+      count_either 32 (active_where w x) (active_in w xs),
+      sum_by-cons (seats_where w) x xs,
+    )
+
+pub told_different : (c : Cells) (u : ℕ) → count_below 32 (is_active_for c (User u)) ≤ seats c u
+told_different c u = different_in (User u) c.sessions

@@ -5,7 +5,7 @@ ghost use Rattle.monitor.specs.Cells.{assigned_in};
 ghost use Rattle.monitor.specs.Authority.{authority_of, Gives, Stored, Ranged, EnabledWithin, OpenWithin};
 
 use crate::changes::Change;
-use crate::sessions::{Session, Whose, active_among, using_among};
+use crate::sessions::{Session, Whose, active_among, seats_among, using_among};
 use crate::states::{Cells, State};
 use policy::approved::Approved;
 use policy::checked::Checked;
@@ -44,7 +44,7 @@ fn assigned_among(users: &[RoleSet; 64]) -> RoleSet
 impl GovernedState {
     ghost use Rattle.policy.specs.Approved as approved;
     ghost use Rattle.monitor.specs.Authority.{Authorised};
-    ghost use Rattle.monitor.specs.Cells.{blank, is_authorised, using};
+    ghost use Rattle.monitor.specs.Cells.{blank, is_authorised, seats, using};
     ghost use Rattle.monitor.specs.Changes.{change_of, next, listed};
     ghost use Rattle.monitor.specs.Governed as governed;
     ghost use Rattle.monitor.specs.Possible.{Possible};
@@ -95,6 +95,14 @@ impl GovernedState {
         ensures { result ≡ record { bits = active_in whose (governed.cells_of self.now).sessions } }
     {
         active_among(self.sessions(), whose)
+    }
+
+    /// How many seats the user takes, 2,048 at most: one for each role active in each of their
+    /// sessions.
+    pub fn seats(&self, user: u8) -> u32
+        ensures { result ≡ seats (governed.cells_of self.now) user }
+    {
+        seats_among(self.sessions(), Whose::User { user })
     }
 
     /// How many sessions have the role active, 64 at most.

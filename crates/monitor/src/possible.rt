@@ -154,7 +154,7 @@ impl GovernedState {
 impl<'a> PossibleEvent<'a> {
     ghost use Rattle.monitor.specs.PossibleEvents as possible;
     ghost use Rattle.monitor.specs.Changes.{change_of, gained, lost, next};
-    ghost use Rattle.monitor.specs.Cells.{using};
+    ghost use Rattle.monitor.specs.Cells.{seats, using};
     ghost use Rattle.monitor.specs.Sessions.{active_in};
 
     /// The tables of the policy.
@@ -203,6 +203,22 @@ impl<'a> PossibleEvent<'a> {
                 active_with(self.governed.sessions(), session, to, whose)
             }
             _ => self.governed.active_in(whose),
+        }
+    }
+
+    /// How many seats the user takes, in the state after the event.
+    pub fn seats_after(self, user: u8) -> u32
+        ensures { result ≡ seats (next (possible.tables_of self.entry)
+            (possible.cells_of self.entry) self.entry.event) user }
+    {
+        let seats = self.governed.seats(user);
+        match self.change {
+            Change::Seated { session, to } => {
+                let whose = Whose::User { user };
+                let before = self.cells().session(session).seats_where(whose);
+                seats - before + to.seats_where(whose)
+            }
+            _ => seats,
         }
     }
 

@@ -8,6 +8,7 @@ ghost use Rattle.monitor.specs.Governed.{tables_of, cells_of};
 ghost use Rattle.monitor.specs.Monitors.{state_of};
 ghost use Rattle.monitor.specs.Sessions.{active_in};
 ghost use Rattle.monitor.specs.Standing.{AssignedToAny, ActiveFor, ActiveForAny};
+ghost use Rattle.monitor.specs.Standing.{is_seat, pairs_below};
 
 use crate::governed::GovernedState;
 use crate::monitors::Monitor;
@@ -40,6 +41,18 @@ impl<P> Monitor<P> {
             ↔ ActiveFor (cells_of (state_of self.now)) user r }
     {
         self.governed.active_in(Whose::User { user })
+    }
+
+    /// How many seats the user takes, 2,048 at most: one for each role active in each of their
+    /// sessions. The different roles active for the user are never more.
+    pub fn seats(&self, user: u8) -> u32
+        ensures answer { result ≡ cells.seats (cells_of (state_of self.now)) user }
+        ensures pairs { result ≡ pairs_below (tables_of (state_of self.now)).sizes.sessions 32
+            (is_seat (cells_of (state_of self.now)) user) }
+        ensures different { count_below 32
+            (cells.is_active_for (cells_of (state_of self.now)) (User user)) ≤ result }
+    {
+        self.governed.seats(user)
     }
 
     /// In how many sessions the role is active, 64 at most.

@@ -1,8 +1,8 @@
 // A session, and what is active in sessions.
 ghost use Rattle.std.specs.Prelude.{◌≡◌, ◌≤◌, if◌then◌else◌, length, slice_set};
 ghost use Rattle.monitor.specs.Changes.{gained_by};
-ghost use Rattle.monitor.specs.Sessions.{is_open, active, owner, active_where, with_active};
-ghost use Rattle.monitor.specs.Sessions.{active_in, sessions_using};
+ghost use Rattle.monitor.specs.Sessions.{is_open, active, owner, active_where, seats_where};
+ghost use Rattle.monitor.specs.Sessions.{with_active, active_in, seats_in, sessions_using};
 
 use sets::RoleSet;
 
@@ -69,6 +69,13 @@ impl Session {
         }
     }
 
+    /// How many roles are active in the session where it is one of those that are meant, else none.
+    pub fn seats_where(self, whose: Whose) -> u32
+        ensures { result ≡ seats_where whose self }
+    {
+        self.active_where(whose).count()
+    }
+
     /// The roles that become active for the owner of the other session where that one stands in
     /// place of this one.
     pub fn gained_by(self, to: Session) -> RoleSet
@@ -99,6 +106,18 @@ pub fn active_among(sessions: &[Session], whose: Whose) -> RoleSet
     sessions.iter().fold(RoleSet::empty(), |all, session| {
         session.active_where(whose).union(all)
     })
+}
+
+// How many seats there are in those of the sessions, 64 at most, that are meant: one for each role
+// active in each of them.
+pub(crate) fn seats_among(sessions: &[Session], whose: Whose) -> u32
+    requires { length sessions.now ≤ 64 }
+    ensures { result ≡ seats_in whose sessions.now }
+{
+    sessions
+        .iter()
+        .map(|session| session.seats_where(whose))
+        .sum()
 }
 
 // How many of the sessions, 64 at most, have the role active.

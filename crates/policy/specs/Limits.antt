@@ -1,7 +1,7 @@
 -- The limits of a policy, each read in one place; a missing limit is none. Assumes nothing.
 --   limit_of_users      of the users authorised for a role
 --   limit_of_roles      of the roles authorised for a user
---   limit_of_active     of the roles active for a user
+--   limit_of_active     of the seats of a user, pairs of a session of theirs and an active role
 --   limit_of_sessions   of the sessions with a role active
 --   within              a count is within a limit
 use Rattle.std.specs.Prelude.{ℕ, Bool, true, Some, None, Option, nat_le, slice_index_or}

@@ -85,7 +85,7 @@ pub struct Limits {
     pub users: [Option<u8>; 32],
     /// The most roles that each user is authorised for.
     pub roles: [Option<u8>; 64],
-    /// The most roles active for each user.
+    /// The most seats of each user: pairs of a session of theirs and a role active in it.
     pub active: [Option<u8>; 64],
     /// The most sessions with each role active.
     pub sessions: [Option<u8>; 32],
@@ -106,7 +106,7 @@ impl Limits {
         at_or(&self.roles, user, None)
     }
 
-    /// The most roles that may be active for the user.
+    /// The most seats that the user may take: pairs of a session of theirs and a role active in it.
     pub fn active(&self, user: u8) -> Option<u8>
         ensures { result ≡ limit_of_active self.now user }
     {

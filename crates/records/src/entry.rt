@@ -45,7 +45,8 @@ pub enum Entry {
         user: u8,
         limit: u8,
     },
-    /// Kind 8, the most roles that the user may have active.
+    /// Kind 8, the most seats that the user may take: pairs of a session of theirs and a role
+    /// active in it.
     LimitOfUserActive {
         user: u8,
         limit: u8,

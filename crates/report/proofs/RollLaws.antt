@@ -151,4 +151,4 @@ pub apart_roll_law : (ms : List Meaning) (k : ℕ) → ((t : Tables) → Separat
     → (bytes text : List ℕ) → RollLaw ms bytes text → ApartRollLaw ms bytes text
 apart_roll_law ms k separates bytes text law t n l er passes =
     let roll = law t n l er passes in
-    record { roll = roll; apart = roll.run_law.separated k (separates t) }
+    record { roll = roll; kept = roll.run_law.separated k (separates t) }

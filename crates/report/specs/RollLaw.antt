@@ -1,8 +1,8 @@
 -- The law over whole runs, of the very events and answers that a roll prints. Assumes nothing.
 --   OnRoll, RollLaw              by the rules of a pile, of an input and its printed roll
---   OnApartRoll, ApartRollLaw    the same, with what separation keeps where it is in the pile
+--   OnKeptRoll, KeptRollLaw      the same, with what is kept in the state after the last event
+--   ApartRollLaw                 what is kept where separation is in the pile
 --   HouseRollLaw                 the same of the house pile
---   OnUnsharedRoll, UnsharedRollLaw   of the house pile, with what assignment conflicts keep
 use Rattle.std.specs.Prelude.{◌≡◌, ℕ, ◌≤◌, List, ◌++◌, length, drop, Ok}
 use Rattle.policy.specs.declared.tables.Tables.{Tables}
 use Rattle.policy.specs.Questions.{Passes}
@@ -12,7 +12,6 @@ use Rattle.monitor.specs.Apart.{StaticallyApart}
 use Rattle.monitor.specs.declared.states.Cells.{Cells}
 use Rattle.monitor.specs.RunLaw.{RunLaw}
 use Rattle.monitor.specs.Meaning.{Meaning}
-use Rattle.families.specs.AssignmentConflicts.{Unshared}
 use Rattle.families.specs.House.{house_rules}
 use Rattle.report.specs.Roll.{whole_script, script_text}
 use Rattle.report.specs.Texts.{verdict_line}
@@ -31,24 +30,19 @@ abbrev pub RollLaw : List Meaning → List ℕ → List ℕ → Type 0
 RollLaw ms bytes text = (t : Tables) (n : ℕ) → length bytes ≤ 65536
     → reading bytes ≡ Ok (t, n) → Passes t → OnRoll ms t n bytes text
 
--- and after them nobody is authorised, even by inheritance, for two roles in static conflict
-pub record OnApartRoll (ms : List Meaning) (t : Tables) (n : ℕ) (bytes text : List ℕ)
-    : Type 0 where
+-- and after them `Holds` is so of the policy's tables and the state
+pub record OnKeptRoll (Holds : Tables → Cells → Type 0) (ms : List Meaning) (t : Tables) (n : ℕ)
+    (bytes text : List ℕ) : Type 0 where
   pub roll : OnRoll ms t n bytes text
-  pub apart : StaticallyApart t roll.state
+  pub kept : Holds t roll.state
 
+abbrev pub KeptRollLaw : (Tables → Cells → Type 0) → List Meaning → List ℕ → List ℕ → Type 0
+KeptRollLaw Holds ms bytes text = (t : Tables) (n : ℕ) → length bytes ≤ 65536
+    → reading bytes ≡ Ok (t, n) → Passes t → OnKeptRoll Holds ms t n bytes text
+
+-- nobody is authorised, even by inheritance, for two roles in static conflict
 abbrev pub ApartRollLaw : List Meaning → List ℕ → List ℕ → Type 0
-ApartRollLaw ms bytes text = (t : Tables) (n : ℕ) → length bytes ≤ 65536
-    → reading bytes ≡ Ok (t, n) → Passes t → OnApartRoll ms t n bytes text
+ApartRollLaw ms bytes text = KeptRollLaw StaticallyApart ms bytes text
 
 abbrev pub HouseRollLaw : List ℕ → List ℕ → Type 0
 HouseRollLaw bytes text = ApartRollLaw house_rules bytes text
-
--- and after them no two users share an assignment that they may not
-pub record OnUnsharedRoll (t : Tables) (n : ℕ) (bytes text : List ℕ) : Type 0 where
-  pub roll : OnRoll house_rules t n bytes text
-  pub unshared : Unshared t roll.state
-
-abbrev pub UnsharedRollLaw : List ℕ → List ℕ → Type 0
-UnsharedRollLaw bytes text = (t : Tables) (n : ℕ) → length bytes ≤ 65536
-    → reading bytes ≡ Ok (t, n) → Passes t → OnUnsharedRoll t n bytes text

@@ -1,7 +1,9 @@
 // The roll of an input: the verdict on its policy, and what each event after it is answered.
 ghost use Rattle.std.specs.Prelude.{◌≡◌, ◌++◌, IfOk, string_bytes};
+ghost use Rattle.families.specs.AssignmentConflicts.{Unshared};
+ghost use Rattle.families.specs.Cardinality.{SeatsWithin};
 ghost use Rattle.families.specs.House.{house_rules};
-ghost use Rattle.report.specs.RollLaw.{RollLaw, ApartRollLaw, HouseRollLaw, UnsharedRollLaw};
+ghost use Rattle.report.specs.RollLaw.{RollLaw, ApartRollLaw, HouseRollLaw, KeptRollLaw};
 ghost use Rattle.report.specs.Roll.{roll_text};
 ghost use Rattle.report.specs.VerdictLaw.{VerdictLaw};
 
@@ -57,7 +59,10 @@ pub fn roll(heap: Global, bytes: &[u8]) -> Result<String, fmt::Error>
     ensures text { IfOk result (λ t. string_bytes t ≡ roll_text house_rules bytes.now) }
     ensures verdict { IfOk result (λ t. VerdictLaw bytes.now (string_bytes t)) }
     ensures law { IfOk result (λ t. HouseRollLaw bytes.now (string_bytes t)) }
-    ensures unshared { IfOk result (λ t. UnsharedRollLaw bytes.now (string_bytes t)) }
+    ensures unshared { IfOk result (λ t.
+        KeptRollLaw Unshared house_rules bytes.now (string_bytes t)) }
+    ensures seats { IfOk result (λ t.
+        KeptRollLaw SeatsWithin house_rules bytes.now (string_bytes t)) }
 {
     roll_by(heap, bytes, house())
 }

@@ -1,7 +1,10 @@
 use Rattle.std.proofs.lemmas.Result.{IfOk-weaker}
 use Rattle.std.proofs.Common.{string_bytes}
+use Rattle.families.specs.AssignmentConflicts.{Unshared}
+use Rattle.families.specs.Cardinality.{SeatsWithin}
+use Rattle.families.specs.CardinalityLaws.{seats_within}
 use Rattle.families.specs.House.{house_rules}
-use Rattle.report.specs.RollLaw.{RollLaw, HouseRollLaw, UnsharedRollLaw}
+use Rattle.report.specs.RollLaw.{RollLaw, HouseRollLaw, KeptRollLaw}
 use Rattle.report.proofs.RollLaws.{apart_roll_law}
 use Rattle.report.proofs.rolls.roll.Goals as goal
 
@@ -15,7 +18,15 @@ returns c = record {
       (string_bytes t) law) c.roll_by.ensures.law;
   unshared = IfOk-weaker c.roll_by.result
       (λ t. RollLaw house_rules c.args.bytes.now (string_bytes t))
-      (λ t. UnsharedRollLaw c.args.bytes.now (string_bytes t))
+      (λ t. KeptRollLaw Unshared house_rules c.args.bytes.now (string_bytes t))
       (λ text law t n l er passes. let roll = law t n l er passes in
-      record { roll = roll; unshared = roll.run_law.allowed.1.1.0 }) c.roll_by.ensures.law;
+      record { roll = roll; kept = roll.run_law.allowed.1.1.0 }) c.roll_by.ensures.law;
+  seats = IfOk-weaker c.roll_by.result
+      (λ t. RollLaw house_rules c.args.bytes.now (string_bytes t))
+      (λ t. KeptRollLaw SeatsWithin house_rules c.args.bytes.now (string_bytes t))
+      (λ text law t n l er passes. let roll = law t n l er passes in
+      record {
+        roll = roll;
+        kept = seats_within t roll.state roll.run_law.fits roll.run_law.allowed.0;
+      }) c.roll_by.ensures.law;
 }
