@@ -14,13 +14,21 @@ use crate::policy::{body_length, kind, Policy, MAX_ROLES, MAX_SESSIONS, MAX_USER
 use crate::random::Random;
 use crate::roll::INPUT_LIMIT;
 use crate::sets::{has_role, role_bit, roles_of};
+use crate::state::Session;
 use crate::verdict;
+
+/// The highest limit that a record can give.
+const HIGHEST_LIMIT: usize = u8::MAX as usize;
 
 /// The input of this index in the series of the seed.
 pub fn input(seed: u64, index: u64) -> Vec<u8> {
     let start = Random::new(seed).next_u64() ^ Random::new(!index).next_u64();
     let random = &mut Random::new(start);
-    let mut plan = Plan::new(random);
+    let mut plan = if random.chance(3) {
+        Plan::for_many_seats(random)
+    } else {
+        Plan::new(random)
+    };
     match random.weighted(&[600, 200, 190, 10]) {
         0 => {
             let policy = plan.records(random).concat();
@@ -43,6 +51,9 @@ pub fn input(seed: u64, index: u64) -> Vec<u8> {
         _ => near_the_limit(random, &plan),
     }
 }
+
+/// A session and a role, active in it or to be activated.
+type Seat = (usize, usize);
 
 /// The numbers that a policy and its events mostly speak of. Where the sizes
 /// are large, a few of them, so that events meet each other.
@@ -89,6 +100,10 @@ struct Plan {
     /// Condition, role, required role.
     required: Vec<(usize, usize, usize)>,
     depends: Vec<(usize, usize)>,
+    /// Users who are to take seats in several sessions.
+    seat_takers: Vec<usize>,
+    /// One of them who is to take about as many as the highest limit allows.
+    taker_of_many: Option<usize>,
 }
 
 fn ordered(a: usize, b: usize) -> (usize, usize) {
@@ -105,7 +120,18 @@ fn two_of(random: &mut Random, from: &[usize]) -> Option<(usize, usize)> {
     Some((from[first], from[second]))
 }
 
-fn sizes(random: &mut Random) -> (usize, usize, usize) {
+/// No more than so many of them, in some order.
+fn some_of(random: &mut Random, from: &[usize], most: usize) -> Vec<usize> {
+    let mut some = from.to_vec();
+    random.shuffle(&mut some);
+    some.truncate(most);
+    some
+}
+
+/// Users, roles and sessions.
+type Sizes = (usize, usize, usize);
+
+fn sizes(random: &mut Random) -> Sizes {
     let most = (MAX_USERS.into(), MAX_ROLES.into(), MAX_SESSIONS.into());
     match random.weighted(&[62, 18, 12, 8]) {
         0 => (
@@ -132,16 +158,14 @@ fn limit(random: &mut Random) -> u8 {
 }
 
 impl Plan {
-    /// A policy that passes the six questions. How much of each sort of
-    /// record it has differs widely from plan to plan.
-    fn new(random: &mut Random) -> Plan {
-        let (users, roles, sessions) = sizes(random);
+    /// No records but the sizes.
+    fn empty(random: &mut Random, (users, roles, sessions): Sizes) -> Plan {
         let cast = Cast {
             users: cast_of(random, users),
             roles: cast_of(random, roles),
             sessions: cast_of(random, sessions),
         };
-        let mut plan = Plan {
+        Plan {
             users,
             roles,
             sessions,
@@ -154,7 +178,16 @@ impl Plan {
             limits: Vec::new(),
             required: Vec::new(),
             depends: Vec::new(),
-        };
+            seat_takers: Vec::new(),
+            taker_of_many: None,
+        }
+    }
+
+    /// A policy that passes the six questions. How much of each sort of
+    /// record it has differs widely from plan to plan.
+    fn new(random: &mut Random) -> Plan {
+        let sizes = sizes(random);
+        let mut plan = Plan::empty(random, sizes);
         // What inherits, requires or depends stands before the other in here,
         // mostly, so that there are no circles.
         let mut order = plan.cast.roles.clone();
@@ -166,7 +199,27 @@ impl Plan {
         plan.add_conflicting_users(random);
         plan.add_assignment_conflicts(random);
         plan.add_limits(random);
+        plan.add_seat_takers(random);
         plan.add_requirements(random, &order);
+        plan
+    }
+
+    /// A policy under which a user can take more seats than the highest limit
+    /// allows: that takes many roles or many sessions, and no conflicts.
+    fn for_many_seats(random: &mut Random) -> Plan {
+        let users = random.between(1, 3);
+        let roles = random.pick(&[4, 5, 8, 16, 31, 32]);
+        let fewest = (HIGHEST_LIMIT + 1).div_ceil(roles);
+        let sessions = random.between(fewest, (fewest + 3).min(MAX_SESSIONS.into()));
+        let mut plan = Plan::empty(random, (users, roles, sessions));
+        let order = plan.cast.roles.clone();
+        plan.add_hierarchy(random, &order);
+        let user = random.pick(&plan.cast.users);
+        plan.seat_takers.push(user);
+        plan.taker_of_many = Some(user);
+        if let Some(limit) = random.pick(&[Some(254), Some(255), Some(255), None]) {
+            plan.set_limit(kind::SEATS_OF_USER, user, limit);
+        }
         plan
     }
 
@@ -336,6 +389,33 @@ impl Plan {
                 }
             }
         }
+    }
+
+    /// Users who are to take seats in several sessions, mostly with a limit
+    /// about as high as the seats that they come to. Sometimes a role is limited
+    /// too, so that an activation can be over both limits, or over the second
+    /// alone.
+    fn add_seat_takers(&mut self, random: &mut Random) {
+        let count = random.pick(&[0, 1, 1, 2]);
+        for user in some_of(random, &self.cast.users, count) {
+            self.seat_takers.push(user);
+            if random.chance(85) {
+                let limit = random.pick(&[0, 1, 1, 1, 1, 2, 2, 2, 2, 3, 3, 3, 4, 5, 6, 8]);
+                self.set_limit(kind::SEATS_OF_USER, user, limit);
+            }
+        }
+        if count > 0 && random.chance(30) {
+            let role = random.pick(&self.cast.roles);
+            let limit = random.pick(&[1, 2, 3, 4]);
+            self.set_limit(kind::SESSIONS_OF_ROLE, role, limit);
+        }
+    }
+
+    /// Sets a limit, in the place of one of the same kind.
+    fn set_limit(&mut self, kind: u8, subject: usize, limit: u8) {
+        let is_another = |&(of_kind, of, _): &(u8, usize, u8)| (of_kind, of) != (kind, subject);
+        self.limits.retain(is_another);
+        self.limits.push((kind, subject, limit));
     }
 
     fn add_requirements(&mut self, random: &mut Random, order: &[usize]) {
@@ -712,6 +792,7 @@ fn with_events(random: &mut Random, plan: &Plan, policy: Vec<u8>) -> Vec<u8> {
     let count = if script.monitor.is_none() {
         count.min(30)
     } else {
+        script.put_many_seats();
         count
     };
     script.put_many(count);
@@ -842,16 +923,14 @@ impl<'a> Script<'a> {
     }
 
     fn put_many(&mut self, count: usize) {
-        let end = self.starts.len() + count;
+        let mut end = self.starts.len() + count;
         if self.starts.is_empty() && self.random.chance(85) {
             self.put_opening(count / 2);
         }
         let provoking = self.random.pick(&[0, 5, 10, 20]);
-        let disputes = if self.plan.assignment_conflicts.is_empty() {
-            0
-        } else {
-            self.random.pick(&[0, 5, 15])
-        };
+        let mut share = |is_asked, of: &[usize]| if is_asked { self.random.pick(of) } else { 0 };
+        let disputes = share(!self.plan.assignment_conflicts.is_empty(), &[0, 5, 15]);
+        let seats = share(!self.plan.seat_takers.is_empty(), &[0, 2, 4]);
         let possible = self.random.pick(&[40, 60, 75]);
         let weights = self.random.pick(&[
             [18, 8, 12, 7, 8, 5, 34, 8],
@@ -860,21 +939,32 @@ impl<'a> Script<'a> {
             [12, 12, 12, 12, 12, 12, 14, 14],
         ]);
         while self.starts.len() < end {
-            let sorts = [provoking, possible, 100 - possible, disputes];
+            let sorts = [provoking, possible, 100 - possible, disputes, seats];
             let event = match self.random.weighted(&sorts) {
                 0 => self.provoking_event(&weights),
                 1 => self.possible_event(&weights),
                 2 => self.any_event(&weights),
+                3 => {
+                    self.put_about_assignments();
+                    continue;
+                }
                 _ => {
-                    if self.random.chance(25) {
-                        self.put_apart();
-                    } else {
-                        self.put_dispute();
-                    }
+                    // These are many, and not to be in the place of others.
+                    let before = self.starts.len();
+                    self.put_few_seats();
+                    end += self.starts.len() - before;
                     continue;
                 }
             };
             self.put(event);
+        }
+    }
+
+    fn put_about_assignments(&mut self) {
+        if self.random.chance(25) {
+            self.put_apart();
+        } else {
+            self.put_dispute();
         }
     }
 
@@ -885,9 +975,9 @@ impl<'a> Script<'a> {
         let listed: Vec<_> = self.plan.assignment_conflicts.iter().copied().collect();
         let (role, lower, higher) = self.random.pick(&listed);
         let user = self.random.pick(&[lower, higher]);
-        let mut others = self.plan.users_listed_with(user, role);
-        self.random.shuffle(&mut others);
-        others.truncate(self.random.between(1, 3));
+        let others = self.plan.users_listed_with(user, role);
+        let most = self.random.between(1, 3);
+        let others = some_of(self.random, &others, most);
         if self.random.chance(50) {
             self.put_end_of_assignments(user);
         }
@@ -950,6 +1040,113 @@ impl<'a> Script<'a> {
         let assigned = monitor.state().assigned.get(user).copied();
         for role in roles_of(assigned.unwrap_or(0)) {
             self.put(Event::Deassign { user, role });
+        }
+    }
+
+    /// Has a user take seats in several sessions. Some that the user takes are
+    /// freed before, and some of the sessions may be another user's.
+    fn put_few_seats(&mut self) {
+        let user = self.random.pick(&self.plan.seat_takers);
+        for _ in 0..self.random.pick(&[0, 1, 3]) {
+            self.put_freeing(user);
+        }
+        let (most_sessions, most_roles) = (self.random.between(2, 5), self.random.between(1, 3));
+        let sessions = some_of(self.random, &self.plan.cast.sessions, most_sessions);
+        let roles = some_of(self.random, &self.plan.cast.roles, most_roles);
+        for &session in &sessions {
+            let owner = self.opened(session).map(|open| open.owner);
+            if owner.is_some_and(|owner| owner != user) && self.random.chance(40) {
+                self.put(Event::Close { session });
+            }
+        }
+        let seats = self.seats_to_take(&sessions, &roles);
+        self.put_seats(user, &roles, &seats);
+    }
+
+    /// Where a user is to take about as many seats as the highest limit allows:
+    /// has the user take so many and a few more, if the policy has them.
+    fn put_many_seats(&mut self) {
+        let Some(user) = self.plan.taker_of_many else {
+            return;
+        };
+        let sessions: Vec<_> = (0..self.plan.sessions).collect();
+        let roles: Vec<_> = (0..self.plan.roles).collect();
+        let mut seats = self.seats_to_take(&sessions, &roles);
+        seats.truncate(HIGHEST_LIMIT + self.random.below(5));
+        self.put_seats(user, &roles, &seats);
+    }
+
+    /// Each of the sessions with each of the roles, in some order.
+    fn seats_to_take(&mut self, sessions: &[usize], roles: &[usize]) -> Vec<Seat> {
+        let of_session = |&session| roles.iter().map(move |&role| (session, role));
+        let mut seats: Vec<_> = sessions.iter().flat_map(of_session).collect();
+        self.random.shuffle(&mut seats);
+        seats
+    }
+
+    /// Gives the user the roles and asks for the seats. Mostly some that the
+    /// user takes are freed then, and those that the user lacks asked for again.
+    fn put_seats(&mut self, user: usize, roles: &[usize], seats: &[Seat]) {
+        for &role in roles {
+            self.put_if_possible(Event::Enable { role });
+            self.put_if_possible(Event::Assign { user, role });
+        }
+        self.put_taking(user, seats);
+        for _ in 0..self.random.pick(&[0, 1, 1, 2, 3]) {
+            self.put_freeing(user);
+            self.put_taking(user, seats);
+        }
+    }
+
+    /// Opens for the user those of the sessions that are closed, and asks for
+    /// the roles that are not active in them yet.
+    fn put_taking(&mut self, user: usize, seats: &[Seat]) {
+        for &(session, role) in seats {
+            self.put_if_possible(Event::Open { session, user });
+            self.put_if_possible(Event::Activate { session, role });
+        }
+    }
+
+    /// Frees a seat of the user by a deactivation, or all of a session by a
+    /// closing.
+    fn put_freeing(&mut self, user: usize) {
+        let seats = self.seats_taken(user);
+        if seats.is_empty() {
+            return;
+        }
+        let (session, role) = self.random.pick(&seats);
+        if self.random.chance(60) {
+            self.put(Event::Deactivate { session, role });
+        } else {
+            self.put(Event::Close { session });
+        }
+    }
+
+    /// The seats that the user takes.
+    fn seats_taken(&self, user: usize) -> Vec<Seat> {
+        let mut seats = Vec::new();
+        for session in 0..self.plan.sessions {
+            if let Some(open) = self.opened(session).filter(|open| open.owner == user) {
+                seats.extend(roles_of(open.active).map(|role| (session, role)));
+            }
+        }
+        seats
+    }
+
+    /// The session, where it is open.
+    fn opened(&self, session: usize) -> Option<Session> {
+        let state = self.monitor.as_ref()?.state();
+        state.sessions.get(session).copied().flatten()
+    }
+
+    fn is_possible(&self, event: Event) -> bool {
+        let hindrance = |monitor: &Monitor| monitor.hindrance(event);
+        self.monitor.as_ref().and_then(hindrance).is_none()
+    }
+
+    fn put_if_possible(&mut self, event: Event) {
+        if self.is_possible(event) {
+            self.put(event);
         }
     }
 
@@ -1038,12 +1235,10 @@ impl<'a> Script<'a> {
     fn possible_event(&mut self, weights: &[usize; 8]) -> Event {
         let mut event = self.any_event(weights);
         for _ in 0..10 {
-            match &self.monitor {
-                Some(monitor) if monitor.hindrance(event).is_some() => {
-                    event = self.any_event(weights)
-                }
-                _ => break,
+            if self.is_possible(event) {
+                break;
             }
+            event = self.any_event(weights);
         }
         event
     }

@@ -15,7 +15,7 @@ pub mod kind {
     pub const CONFLICTING_USERS: u8 = 5;
     pub const USERS_OF_ROLE: u8 = 6;
     pub const ROLES_OF_USER: u8 = 7;
-    pub const ACTIVE_OF_USER: u8 = 8;
+    pub const SEATS_OF_USER: u8 = 8;
     pub const SESSIONS_OF_ROLE: u8 = 9;
     pub const REQUIRES: u8 = 10;
     pub const DEPENDS: u8 = 11;
@@ -101,8 +101,9 @@ pub struct Policy {
     pub max_users_of_role: Vec<Option<u8>>,
     /// By user: for how many roles the user may be authorised.
     pub max_roles_of_user: Vec<Option<u8>>,
-    /// By user: how many different roles the user may have active.
-    pub max_active_of_user: Vec<Option<u8>>,
+    /// By user: how many seats the user may take, one for each role active in
+    /// each session of theirs.
+    pub max_seats_of_user: Vec<Option<u8>>,
     /// By role: in how many sessions it may be active.
     pub max_sessions_of_role: Vec<Option<u8>>,
     /// By role, then by condition: the required roles.
@@ -125,7 +126,7 @@ impl Policy {
             assignment_conflicts: vec![vec![0; users]; roles],
             max_users_of_role: vec![None; roles],
             max_roles_of_user: vec![None; users],
-            max_active_of_user: vec![None; users],
+            max_seats_of_user: vec![None; users],
             max_sessions_of_role: vec![None; roles],
             required: vec![[0; 6]; roles],
             depends_on: vec![0; roles],
@@ -234,7 +235,7 @@ impl Policy {
         let limits = match kind {
             kind::USERS_OF_ROLE => &mut self.max_users_of_role,
             kind::ROLES_OF_USER => &mut self.max_roles_of_user,
-            kind::ACTIVE_OF_USER => &mut self.max_active_of_user,
+            kind::SEATS_OF_USER => &mut self.max_seats_of_user,
             _ => &mut self.max_sessions_of_role,
         };
         Ok(&mut limits[subject])

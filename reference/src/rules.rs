@@ -4,8 +4,8 @@
 use crate::event::Event;
 use crate::hierarchy::Hierarchy;
 use crate::policy::{Condition, Policy};
-use crate::sets::{has_role, has_user, lowest_role, lowest_user, role_bit, roles_of};
-use crate::sets::{user_bit, users_of, RoleSet};
+use crate::sets::{count_roles, has_role, has_user, lowest_role, lowest_user, role_bit};
+use crate::sets::{roles_of, user_bit, users_of, RoleSet};
 use crate::state::{Session, State};
 
 /// What the rules look at.
@@ -65,18 +65,20 @@ pub fn cardinality(scene: Scene, event: Event) -> Option<Breach> {
             if let Some(role) = over {
                 return breach(41, role);
             }
-            if exceeds(count(authorised_after), policy.max_roles_of_user[user]) {
+            let roles_after = count_roles(authorised_after);
+            if exceeds(roles_after, policy.max_roles_of_user[user]) {
                 return breach(42, user);
             }
             None
         }
         Event::Activate { session, role } => {
             let owner = opened(state, session).owner;
-            let active_after = state.active_for(owner) | role_bit(role);
-            if exceeds(count(active_after), policy.max_active_of_user[owner]) {
+            // The event is possible, so the role is not active in this session
+            // yet: the owner takes one seat more, and one session more uses it.
+            let seats_after = state.seats_of(owner) + 1;
+            if exceeds(seats_after, policy.max_seats_of_user[owner]) {
                 return breach(43, owner);
             }
-            // The event is possible, so this session does not use it yet.
             let sessions_after = state.sessions_using(role) + 1;
             if exceeds(sessions_after, policy.max_sessions_of_role[role]) {
                 return breach(44, role);
@@ -179,10 +181,6 @@ pub fn dependency(scene: Scene, event: Event) -> Option<Breach> {
 /// The session of a possible event other than an opening: it is open.
 fn opened(state: &State, session: usize) -> Session {
     state.sessions[session].expect("a possible event has its session open")
-}
-
-fn count(roles: RoleSet) -> usize {
-    roles.count_ones() as usize
 }
 
 /// Is the count over the limit? A limit that the policy does not have is none.

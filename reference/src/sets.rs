@@ -19,6 +19,11 @@ pub fn has_user(set: UserSet, user: usize) -> bool {
     set & user_bit(user) != 0
 }
 
+/// How many members a set of roles has.
+pub fn count_roles(set: RoleSet) -> usize {
+    set.count_ones() as usize
+}
+
 pub fn lowest_role(set: RoleSet) -> Option<usize> {
     (set != 0).then(|| set.trailing_zeros() as usize)
 }

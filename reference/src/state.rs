@@ -4,7 +4,8 @@
 use crate::event::Event;
 use crate::hierarchy::Hierarchy;
 use crate::policy::Policy;
-use crate::sets::{has_role, lowest_role, role_bit, user_bit, RoleSet, UserSet};
+use crate::sets::{count_roles, has_role, lowest_role, role_bit, user_bit};
+use crate::sets::{RoleSet, UserSet};
 
 /// An open session.
 #[derive(Clone, Copy, Debug, PartialEq, Eq)]
@@ -87,6 +88,12 @@ impl State {
         self.sessions.iter().flatten()
     }
 
+    /// The sessions that the user owns.
+    pub fn sessions_of(&self, user: usize) -> impl Iterator<Item = &Session> {
+        let is_theirs = move |session: &&Session| session.owner == user;
+        self.open_sessions().filter(is_theirs)
+    }
+
     /// The roles active in any session.
     pub fn active_for_anyone(&self) -> RoleSet {
         self.open_sessions()
@@ -95,9 +102,16 @@ impl State {
 
     /// The roles active in any session that the user owns.
     pub fn active_for(&self, user: usize) -> RoleSet {
-        self.open_sessions()
-            .filter(|session| session.owner == user)
+        self.sessions_of(user)
             .fold(0, |sum, session| sum | session.active)
+    }
+
+    /// How many seats the user takes: one for each role active in each session
+    /// that the user owns.
+    pub fn seats_of(&self, user: usize) -> usize {
+        self.sessions_of(user)
+            .map(|session| count_roles(session.active))
+            .sum()
     }
 
     /// How many sessions have the role active.

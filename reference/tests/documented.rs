@@ -281,16 +281,16 @@ fn house(records: &[u8]) -> Vec<u8> {
     [&[1, 3, 5, 3, 2, 0, 1], records, &[12]].concat()
 }
 
-/// The opening events that give every role to be used later.
-fn enabled() -> Vec<[u8; 2]> {
-    (0..5).map(enable).collect()
+static ENABLING: [[u8; 2]; 5] = [[34, 0], [34, 1], [34, 2], [34, 3], [34, 4]];
+
+/// The events behind those that enable every role.
+fn once_enabled<'a>(events: &[&'a [u8]]) -> Vec<&'a [u8]> {
+    let enabling = ENABLING.iter().map(|event| &event[..]);
+    enabling.chain(events.iter().copied()).collect()
 }
 
 fn put(records: &[u8], events: &[&[u8]]) -> [u64; 4] {
-    let enabled = enabled();
-    let mut all: Vec<&[u8]> = enabled.iter().map(|event| &event[..]).collect();
-    all.extend(events);
-    last(&house(records), &all)
+    last(&house(records), &once_enabled(events))
 }
 
 #[test]
@@ -318,7 +318,9 @@ fn cardinality() {
     ];
     let then = |limit: &[u8], event: &[u8]| put(limit, &[&scanning[..], &[event]].concat());
     assert_eq!(then(&[8, 0, 1], &activate(1, 3)), [43, 0, 1, 0]);
-    assert_eq!(then(&[8, 0, 1], &activate(1, 1)), GRANTED);
+    assert_eq!(then(&[8, 0, 1], &activate(0, 3)), [43, 0, 1, 0]);
+    assert_eq!(then(&[8, 0, 1], &activate(1, 1)), [43, 0, 1, 0]);
+    assert_eq!(then(&[8, 0, 2], &activate(1, 1)), GRANTED);
     assert_eq!(then(&[9, 1, 1], &activate(1, 1)), [44, 1, 1, 0]);
     assert_eq!(then(&[9, 1, 2], &activate(1, 1)), GRANTED);
     // 43 before 44.
@@ -336,6 +338,215 @@ fn cardinality() {
     ];
     assert_eq!(put(&[9, 1, 2], &three), [44, 1, 1, 0]);
     assert_eq!(put(&[9, 1, 255], &three), GRANTED);
+}
+
+/// The example of the families' page, as it is pasted.
+#[test]
+fn the_seats_of_ana() {
+    let input = [
+        1, 2, 5, 3, 8, 0, 2, 12, //
+        32, 0, 1, 32, 0, 3, 32, 1, 1, 34, 1, 34, 3, 36, 0, 0, 36, 1, 0, 36, 2, 1, //
+        38, 0, 1, 38, 1, 1, 38, 1, 3, 38, 2, 1, //
+        39, 0, 1, 38, 1, 3, 38, 0, 1, 37, 1, 38, 0, 3,
+    ];
+    let expected = "\
+policy 0 8 0 0 0 0
+0 32 0 0 0 0
+1 32 0 0 0 0
+2 32 0 0 0 0
+3 34 0 0 0 0
+4 34 0 0 0 0
+5 36 0 0 0 0
+6 36 0 0 0 0
+7 36 0 0 0 0
+8 38 0 0 0 0
+9 38 0 0 0 0
+10 38 43 0 1 0
+11 38 0 0 0 0
+12 39 0 0 0 0
+13 38 0 0 0 0
+14 38 43 0 1 0
+15 37 0 0 0 10
+16 38 0 0 0 0
+end 17 48 0
+";
+    assert_eq!(roll(&input), expected);
+}
+
+/// The answers where users 0 and 1 have roles 0 and 3, and role 1 by role 0;
+/// sessions 0 and 1 are user 0's, and session 2 is user 1's.
+fn seated(records: &[u8], events: &[&[u8]]) -> Vec<[u64; 4]> {
+    let opening: [&[u8]; 7] = [
+        &assign(0, 0),
+        &assign(0, 3),
+        &assign(1, 0),
+        &assign(1, 3),
+        &open(0, 0),
+        &open(1, 0),
+        &open(2, 1),
+    ];
+    let all = once_enabled(&[&opening, events].concat());
+    answers(&house(records), &all).split_off(all.len() - events.len())
+}
+
+/// 43 for a user, whose session it is.
+fn no_seat(user: u64) -> [u64; 4] {
+    [43, user, 1, 0]
+}
+
+#[test]
+fn what_takes_a_seat() {
+    let (one, other) = (activate(0, 1), activate(1, 1));
+    // The same role in another session, and another role in either.
+    let three: [&[u8]; 4] = [&one, &other, &activate(0, 3), &activate(1, 3)];
+    let refused = no_seat(0);
+    assert_eq!(
+        seated(&[8, 0, 1], &three),
+        [GRANTED, refused, refused, refused]
+    );
+    // One role in two sessions, or two roles in one: either, and no third.
+    assert_eq!(
+        seated(&[8, 0, 2], &three),
+        [GRANTED, GRANTED, refused, refused]
+    );
+    let two_roles: [&[u8]; 4] = [&one, &activate(0, 3), &other, &activate(1, 3)];
+    assert_eq!(
+        seated(&[8, 0, 2], &two_roles),
+        [GRANTED, GRANTED, refused, refused]
+    );
+    // Two roles in each of two sessions are four.
+    assert_eq!(
+        seated(&[8, 0, 3], &two_roles),
+        [GRANTED, GRANTED, GRANTED, refused]
+    );
+    assert_eq!(seated(&[8, 0, 4], &two_roles), [GRANTED; 4]);
+    assert_eq!(seated(&[], &two_roles), [GRANTED; 4]);
+    // An active senior is not an active junior: it takes one seat.
+    let senior: [&[u8]; 3] = [&activate(0, 0), &one, &other];
+    assert_eq!(seated(&[8, 0, 2], &senior), [GRANTED, GRANTED, refused]);
+    assert_eq!(seated(&[8, 0, 0], &[&one]), [refused]);
+}
+
+#[test]
+fn whose_seats_they_are() {
+    let refused = no_seat(0);
+    // Neither another user's seats nor a session with no active role.
+    let with_other: [&[u8]; 6] = [
+        &close(1),
+        &activate(2, 1),
+        &activate(2, 3),
+        &activate(0, 1),
+        &open(1, 0),
+        &activate(1, 1),
+    ];
+    let answers = seated(&[8, 0, 1], &with_other);
+    assert_eq!((&answers[..5], answers[5]), (&[GRANTED; 5][..], refused));
+    // The subject is the owner, and user 0 has no limit here.
+    let theirs: [&[u8]; 4] = [
+        &activate(0, 1),
+        &activate(1, 1),
+        &activate(2, 1),
+        &activate(2, 3),
+    ];
+    assert_eq!(
+        seated(&[8, 1, 1], &theirs),
+        [GRANTED, GRANTED, GRANTED, no_seat(1)]
+    );
+    assert_eq!(seated(&[8, 1, 0], &theirs)[2..], [no_seat(1), no_seat(1)]);
+    assert_eq!(seated(&[8, 2, 0], &theirs), [GRANTED; 4]);
+}
+
+#[test]
+fn seats_are_free_again() {
+    let events: [&[u8]; 11] = [
+        &activate(0, 1),
+        &activate(1, 1),
+        &activate(1, 3),
+        &deactivate(0, 1),
+        &activate(1, 3),
+        &activate(0, 1),
+        &close(1),
+        &activate(0, 1),
+        &activate(0, 3),
+        &open(1, 0),
+        &activate(1, 1),
+    ];
+    let numbers: Vec<u64> = seated(&[8, 0, 2], &events)
+        .iter()
+        .map(|answer| answer[0])
+        .collect();
+    assert_eq!(numbers, [0, 0, 43, 0, 0, 43, 0, 0, 0, 0, 43]);
+    // Where the role is active in another session, that seat stays taken.
+    let events: [&[u8]; 5] = [
+        &activate(0, 1),
+        &activate(1, 1),
+        &deactivate(1, 1),
+        &activate(1, 3),
+        &activate(0, 3),
+    ];
+    let answers = seated(&[8, 0, 2], &events);
+    assert_eq!((&answers[..4], answers[4]), (&[GRANTED; 4][..], no_seat(0)));
+}
+
+#[test]
+fn what_counts_no_seats() {
+    let both: [&[u8]; 3] = [&activate(0, 1), &activate(1, 1), &activate(2, 1)];
+    let then = |records: &[u8]| seated(records, &both);
+    // 43 before 44; and 44, which counts sessions, where the seats suffice.
+    let over_both = [8, 0, 1, 9, 1, 1];
+    assert_eq!(then(&over_both)[1..], [no_seat(0), [44, 1, 1, 0]]);
+    assert_eq!(then(&[8, 0, 2, 9, 1, 1])[1], [44, 1, 1, 0]);
+    assert_eq!(then(&[8, 0, 2, 9, 1, 2])[1..], [GRANTED, [44, 1, 1, 0]]);
+    // What is active for a user is a set: a role is still in it when one of two
+    // sessions no longer has it.
+    let clash: [&[u8]; 4] = [
+        &activate(0, 1),
+        &activate(1, 1),
+        &deactivate(0, 1),
+        &activate(0, 3),
+    ];
+    let conflict = |records: &[u8]| seated(&[records, &[4, 1, 3]].concat(), &clash);
+    assert_eq!(conflict(&[8, 0, 2])[1..], [GRANTED, GRANTED, [46, 1, 2, 0]]);
+    assert_eq!(conflict(&[8, 0, 1])[1..], [no_seat(0), GRANTED, GRANTED]);
+    let required = |records: &[u8]| seated(&[records, &[10, 6, 3, 1]].concat(), &clash);
+    assert_eq!(required(&[8, 0, 2])[3], GRANTED);
+    assert_eq!(required(&[8, 0, 1])[3], [56, 1, 4, 0]);
+    // Cardinality stands above the other families.
+    let below = [4, 1, 3, 10, 5, 3, 4, 11, 3, 4];
+    let at_once: [&[u8]; 2] = [&activate(0, 1), &activate(1, 3)];
+    let with = |limit: u8| seated(&[&[8, 0, limit], &below[..]].concat(), &at_once)[1];
+    assert_eq!(with(1), no_seat(0));
+    assert_eq!(with(2), [46, 1, 2, 0]);
+}
+
+/// The answers where the only user activates each role in each session.
+fn take_all(roles: u8, sessions: u8, limit: &[u8]) -> Vec<[u64; 4]> {
+    let policy = [&[1, 1, roles, sessions], limit, &[12]].concat();
+    let mut events: Vec<Vec<u8>> = Vec::new();
+    for role in 0..roles {
+        events.extend([assign(0, role).to_vec(), enable(role).to_vec()]);
+    }
+    events.extend((0..sessions).map(|session| open(session, 0).to_vec()));
+    let before = events.len();
+    for session in 0..sessions {
+        events.extend((0..roles).map(|role| activate(session, role).to_vec()));
+    }
+    let events: Vec<&[u8]> = events.iter().map(|event| &event[..]).collect();
+    answers(&policy, &events).split_off(before)
+}
+
+#[test]
+fn the_highest_limits_of_seats() {
+    for (roles, sessions) in [(32, 8), (4, 64), (32, 64)] {
+        let seats = usize::from(roles) * usize::from(sessions);
+        for limit in [254, 255] {
+            let answers = take_all(roles, sessions, &[8, 0, limit]);
+            let (granted, refused) = answers.split_at(limit.into());
+            assert_eq!(granted, vec![GRANTED; granted.len()]);
+            assert_eq!(refused, vec![no_seat(0); seats - granted.len()]);
+        }
+        assert_eq!(take_all(roles, sessions, &[]), vec![GRANTED; seats]);
+    }
 }
 
 #[test]

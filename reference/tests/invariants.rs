@@ -2,17 +2,17 @@
 //! reference on generated inputs. The promises are written out here by their
 //! definitions, as slow as they come.
 
-use std::collections::BTreeMap;
+use std::collections::{BTreeMap, BTreeSet};
 
 use reference::event::Event;
 use reference::generate;
 use reference::hierarchy::Hierarchy;
 use reference::monitor::{Answer, Monitor};
-use reference::policy::{Policy, UserPairs};
+use reference::policy::{Policy, UserPairs, MAX_ROLES};
 use reference::roll::INPUT_LIMIT;
 use reference::rules::{assignment_conflicts, cardinality, dependency, separation, Scene};
 use reference::sets::{has_role, has_user, roles_of, users_of};
-use reference::state::State;
+use reference::state::{Session, State};
 use reference::verdict;
 
 /// Seniority by its definition; the steps left bound the search.
@@ -63,6 +63,21 @@ fn is_active(state: &State, role: usize) -> bool {
         .any(|session| has_role(session.active, role))
 }
 
+/// The seats of a user: the pairs of a session of theirs and a role active in
+/// it.
+fn seats(state: &State, user: usize) -> BTreeSet<(usize, usize)> {
+    let mut seats = BTreeSet::new();
+    for (session, open) in state.sessions.iter().enumerate() {
+        for role in 0..MAX_ROLES.into() {
+            let is_seat = |open: &Session| open.owner == user && has_role(open.active, role);
+            if open.as_ref().is_some_and(is_seat) {
+                seats.insert((session, role));
+            }
+        }
+    }
+    seats
+}
+
 fn within_limits(policy: &Policy, state: &State) -> bool {
     let (users, roles) = (0..policy.users, 0..policy.roles);
     roles.clone().all(|role| {
@@ -78,11 +93,8 @@ fn within_limits(policy: &Policy, state: &State) -> bool {
         let authorised = roles
             .clone()
             .filter(|&role| has_role(state.authorised[user], role));
-        let active = roles
-            .clone()
-            .filter(|&role| is_active_for(state, user, role));
         is_within(authorised.count(), policy.max_roles_of_user[user])
-            && is_within(active.count(), policy.max_active_of_user[user])
+            && is_within(seats(state, user).len(), policy.max_seats_of_user[user])
     })
 }
 
@@ -216,10 +228,10 @@ fn ask_whether_exact(scene: Scene, seniority: &[Vec<bool>], event: Event) {
     assert_eq!(admitted, allowed, "{event:?}");
 }
 
-/// Generated inputs whose policy passes, and which are not too long to look
-/// through.
-fn passing_inputs(seed: u64) -> impl Iterator<Item = Vec<u8>> {
-    (0..300)
+/// Of so many generated inputs those whose policy passes, and which are not
+/// too long to look through.
+fn passing_inputs(seed: u64, count: u64) -> impl Iterator<Item = Vec<u8>> {
+    (0..count)
         .map(move |index| generate::input(seed, index))
         .filter(|input| input.len() <= INPUT_LIMIT / 4 && monitor(input).is_some())
 }
@@ -227,7 +239,7 @@ fn passing_inputs(seed: u64) -> impl Iterator<Item = Vec<u8>> {
 #[test]
 fn every_state_fits_and_four_families_are_exact() {
     let mut decided = 0;
-    for input in passing_inputs(7) {
+    for input in passing_inputs(7, 300) {
         let (mut monitor, mut rest) = monitor(&input).expect("its policy passes");
         let policy = monitor.policy().clone();
         let seniority = seniority(&policy);
@@ -329,7 +341,7 @@ impl Assignments {
 #[test]
 fn assignment_conflicts_name_the_lowest_other_user() {
     let mut counts = Assignments::default();
-    for input in passing_inputs(10) {
+    for input in passing_inputs(10, 300) {
         let (mut monitor, mut rest) = monitor(&input).expect("its policy passes");
         let policy = monitor.policy().clone();
         let seniority = seniority(&policy);
@@ -349,6 +361,190 @@ fn assignment_conflicts_name_the_lowest_other_user() {
         }
     }
     assert!(counts.all().iter().all(|&count| count > 100), "{counts:?}");
+}
+
+/// What a possible activation makes of the seats of the owner.
+struct Activation {
+    owner: usize,
+    limit: Option<u8>,
+    /// The seats of the owner after it.
+    seats: BTreeSet<(usize, usize)>,
+    /// The different roles among these.
+    roles: usize,
+    /// Whether the owner has the role active in another session.
+    is_elsewhere: bool,
+    /// Whether the role would be active in too many sessions.
+    is_used_too_often: bool,
+    /// How many seats everybody takes together after it.
+    seats_of_all: usize,
+}
+
+impl Activation {
+    fn new(scene: Scene, (session, role): (usize, usize)) -> Activation {
+        let Scene { policy, state, .. } = scene;
+        let open = state.sessions[session].expect("the activation is possible");
+        let mut seats_of_all = 1;
+        let mut using = 1;
+        for user in 0..policy.users {
+            let seats = seats(state, user);
+            seats_of_all += seats.len();
+            using += seats.iter().filter(|&&(_, active)| active == role).count();
+        }
+        let mut seats = seats(state, open.owner);
+        let is_elsewhere = seats.iter().any(|&(_, active)| active == role);
+        seats.insert((session, role));
+        let roles: BTreeSet<usize> = seats.iter().map(|&(_, role)| role).collect();
+        Activation {
+            owner: open.owner,
+            limit: policy.max_seats_of_user[open.owner],
+            seats,
+            roles: roles.len(),
+            is_elsewhere,
+            is_used_too_often: !is_within(using, policy.max_sessions_of_role[role]),
+            seats_of_all,
+        }
+    }
+
+    /// Number and subject that cardinality names, by its two questions.
+    fn expected(&self, role: usize) -> Option<(u8, usize)> {
+        if !is_within(self.seats.len(), self.limit) {
+            return Some((43, self.owner));
+        }
+        self.is_used_too_often.then_some((44, role))
+    }
+
+    fn reaches_limit(&self) -> bool {
+        self.limit
+            .is_some_and(|most| self.seats.len() == most.into())
+    }
+}
+
+/// How often the activations of generated inputs come to what a limit of seats
+/// tells apart.
+#[derive(Debug, Default)]
+struct Seats {
+    /// Refused, and no further role would have been active for the owner.
+    refused_elsewhere: usize,
+    refused_new_role: usize,
+    /// Refused, and the different roles would have been within the limit.
+    refused_new_role_of_few: usize,
+    refused_first: usize,
+    /// Refused by 43, and 44 would refuse it too.
+    refused_by_both: usize,
+    /// Refused by 44 where the seats are within a limit.
+    refused_by_sessions: usize,
+    /// Granted at exactly the limit, with a role in two sessions.
+    granted_in_two: usize,
+    /// Granted where everybody's seats would have been over the limit.
+    granted_beside_others: usize,
+    reused_after_deactivation: usize,
+    reused_after_closing: usize,
+    refused_at_highest: usize,
+    granted_past_highest: usize,
+    /// By user: the last event that freed a seat of a user who took all that
+    /// the limit allows.
+    freed: BTreeMap<usize, Event>,
+}
+
+impl Seats {
+    fn count(&mut self, activation: &Activation, number: u8) {
+        let Activation { seats, limit, .. } = activation;
+        let is_elsewhere = activation.is_elsewhere;
+        let is_of_few = is_within(activation.roles, *limit);
+        match number {
+            43 => {
+                self.refused_elsewhere += usize::from(is_elsewhere);
+                self.refused_new_role += usize::from(!is_elsewhere);
+                self.refused_new_role_of_few += usize::from(!is_elsewhere && is_of_few);
+                self.refused_first += usize::from(seats.len() == 1);
+                self.refused_by_both += usize::from(activation.is_used_too_often);
+                self.refused_at_highest += usize::from(*limit == Some(255));
+            }
+            44 => self.refused_by_sessions += usize::from(limit.is_some()),
+            0 => {
+                let is_in_two = activation.roles < seats.len() && activation.reaches_limit();
+                let is_beside_others = !is_within(activation.seats_of_all, *limit);
+                self.granted_in_two += usize::from(is_in_two);
+                self.granted_beside_others += usize::from(is_beside_others);
+                self.granted_past_highest += usize::from(seats.len() > 255);
+                self.count_reused(activation);
+            }
+            _ => {}
+        }
+    }
+
+    /// Of a granted activation: whether it takes the last seat again.
+    fn count_reused(&mut self, activation: &Activation) {
+        if activation.reaches_limit() {
+            match self.freed.remove(&activation.owner) {
+                Some(Event::Deactivate { .. }) => self.reused_after_deactivation += 1,
+                Some(_) => self.reused_after_closing += 1,
+                None => {}
+            }
+        }
+    }
+
+    /// Keeps the granted event where it freed seats of a user at the limit.
+    fn keep_freeing(&mut self, policy: &Policy, before: &State, event: Event) {
+        let (Event::Deactivate { session, .. } | Event::Close { session }) = event else {
+            return;
+        };
+        let open = before.sessions[session].expect("the event was possible");
+        let taken = seats(before, open.owner).len();
+        let limit = policy.max_seats_of_user[open.owner];
+        if open.active != 0 && limit.is_some_and(|most| taken == most.into()) {
+            self.freed.insert(open.owner, event);
+        }
+    }
+
+    fn frequent(&self) -> [usize; 10] {
+        [
+            self.refused_elsewhere,
+            self.refused_new_role,
+            self.refused_new_role_of_few,
+            self.refused_first,
+            self.refused_by_both,
+            self.refused_by_sessions,
+            self.granted_in_two,
+            self.granted_beside_others,
+            self.reused_after_deactivation,
+            self.reused_after_closing,
+        ]
+    }
+}
+
+/// That 43 counts the pairs of a session of the owner and a role active in it
+/// and stands before 44, and that the inputs come to all of it.
+#[test]
+fn a_limit_of_seats_counts_sessions_with_roles() {
+    let mut counts = Seats::default();
+    for input in passing_inputs(11, 1000) {
+        let (mut monitor, mut rest) = monitor(&input).expect("its policy passes");
+        counts.freed.clear();
+        while let Ok((event, after)) = Event::take(rest) {
+            rest = after;
+            if monitor.hindrance(event).is_some() {
+                continue;
+            }
+            let scene = monitor.scene();
+            if let Event::Activate { session, role } = event {
+                let activation = Activation::new(scene, (session, role));
+                let named = cardinality(scene, event);
+                let named = named.map(|breach| (breach.number, breach.subject));
+                assert_eq!(named, activation.expected(role));
+                counts.count(&activation, monitor.decide(event).number());
+            } else {
+                let before = monitor.state().clone();
+                if monitor.decide(event).number() == 0 {
+                    counts.keep_freeing(monitor.policy(), &before, event);
+                }
+            }
+        }
+    }
+    let is_frequent = |&count: &usize| count > 100;
+    assert!(counts.frequent().iter().all(is_frequent), "{counts:?}");
+    let at_highest = [counts.refused_at_highest, counts.granted_past_highest];
+    assert!(at_highest.iter().all(|&count| count > 5), "{counts:?}");
 }
 
 #[test]
