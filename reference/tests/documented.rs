@@ -399,28 +399,19 @@ fn what_takes_a_seat() {
     let (one, other) = (activate(0, 1), activate(1, 1));
     // The same role in another session, and another role in either.
     let three: [&[u8]; 4] = [&one, &other, &activate(0, 3), &activate(1, 3)];
-    let refused = no_seat(0);
-    assert_eq!(
-        seated(&[8, 0, 1], &three),
-        [GRANTED, refused, refused, refused]
-    );
-    // One role in two sessions, or two roles in one: either, and no third.
-    assert_eq!(
-        seated(&[8, 0, 2], &three),
-        [GRANTED, GRANTED, refused, refused]
-    );
+    // Two roles in one session, and then each of them in another.
     let two_roles: [&[u8]; 4] = [&one, &activate(0, 3), &other, &activate(1, 3)];
-    assert_eq!(
-        seated(&[8, 0, 2], &two_roles),
-        [GRANTED, GRANTED, refused, refused]
-    );
-    // Two roles in each of two sessions are four.
-    assert_eq!(
-        seated(&[8, 0, 3], &two_roles),
-        [GRANTED, GRANTED, GRANTED, refused]
-    );
-    assert_eq!(seated(&[8, 0, 4], &two_roles), [GRANTED; 4]);
-    assert_eq!(seated(&[], &two_roles), [GRANTED; 4]);
+    let refused = no_seat(0);
+    // Four seats, in whatever order they are taken: as many as the limit says.
+    for events in [three, two_roles] {
+        for limit in 0..=4 {
+            let answers = seated(&[8, 0, limit], &events);
+            let (first, later) = answers.split_at(limit.into());
+            assert_eq!(first, vec![GRANTED; first.len()]);
+            assert_eq!(later, vec![refused; later.len()]);
+        }
+        assert_eq!(seated(&[], &events), [GRANTED; 4]);
+    }
     // An active senior is not an active junior: it takes one seat.
     let senior: [&[u8]; 3] = [&activate(0, 0), &one, &other];
     assert_eq!(seated(&[8, 0, 2], &senior), [GRANTED, GRANTED, refused]);

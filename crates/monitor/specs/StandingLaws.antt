@@ -2,7 +2,7 @@
 -- above, and assumes nothing.
 use Rattle.std.proofs.Common.{◌≡◌, ℕ, zero, suc, ◌+◌, ◌≤◌, Bool, true, false, ◌&&◌, ◌||◌, eqb, ◌↔◌, List, [], ◌∷◌, get_or, take, sym, refl, ap, ◌∙◌, inl, inr, arith}
 use mathlib.Core.Path.{fun_ext}
-use Rattle.std.proofs.lemmas.Bool.{both_ways, cases_Bool, cond-true, cond-false, or_cases, or_left, or_right}
+use Rattle.std.proofs.lemmas.Bool.{and_right, both_ways, cases_Bool, cond-true, cond-false, or_cases, or_left, or_right}
 use Rattle.std.proofs.lemmas.List.Sums.{sum_by-cons}
 use Rattle.sets.specs.Aliases.{RoleSet}
 use Rattle.sets.specs.Sets.{has, union, count_below}
@@ -110,11 +110,7 @@ told_some c r = (using_some c.sessions r, λ (s, h). some_using c.sessions s r h
 
 seat_has : (u : ℕ) (x : Session) (r : ℕ)
     → has (active_where (User u) x) r ≡ (eqb (owner x) u && has (active x) r)
-seat_has u Closed r = has-zero r ∙ sym (ap (λ b. eqb 0 u && b) (has-zero r) ∙ neither (eqb 0 u))
-  where
-    neither : (b : Bool) → (b && false) ≡ false
-    neither true = refl
-    neither false = refl
+seat_has u Closed r = has-zero r ∙ sym (and_right (eqb 0 u) (has 0 r) (has-zero r))
 seat_has u (Open o a) r = elim (cases_Bool (eqb o u)) [
   | inl h ↦
       ap (λ n. has n r) (cond-true (eqb o u) a.bits 0 h) ∙ sym (ap (λ b. b && has a.bits r) h)

@@ -69,7 +69,7 @@ impl Session {
         }
     }
 
-    /// How many roles are active in the session where it is one of those that are meant, else none.
+    /// How many roles are active in the session where it is one of those that are meant, else 0.
     pub fn seats_where(self, whose: Whose) -> u32
         ensures { result ≡ seats_where whose self }
     {

@@ -3,6 +3,7 @@ use Rattle.std.proofs.Common.{Bool, false, true≢false, ◌≡◌, ℕ, ◌-◌
 use Rattle.std.proofs.lemmas.Bool.{cond-false, le-ltb, ne_eqb}
 use Rattle.std.specs.Prelude.{if◌then◌else◌, is_ok, nat_eq}
 use Rattle.std.specs.Result.{is_err}
+use Rattle.records.specs.declared.event.Event.{Event}
 use Rattle.records.specs.declared.fault.Fault.{Fault}
 use Rattle.policy.specs.Approved as approved
 use Rattle.policy.specs.declared.approved.Approved.{Approved}
@@ -14,15 +15,17 @@ use Rattle.policy.specs.Verdicts.{Verdict, failure_number, number_of}
 use Rattle.policy.specs.WellFormed.{WellFormed}
 use Rattle.policy.specs.ReadingLaws.{reading_well_formed}
 use Rattle.policy.specs.VerdictLaws.{failure_has_number, verdict_right}
-use Rattle.monitor.specs.Apart.{SeparatesAt}
+use Rattle.monitor.specs.Answers.{Answer}
+use Rattle.monitor.specs.Apart.{StaticallyApart, SeparatesAt}
 use Rattle.monitor.specs.declared.states.Cells.{Cells}
 use Rattle.monitor.specs.Cells.{blank}
 use Rattle.monitor.specs.History.{replies, after}
 use Rattle.monitor.specs.Meaning.{Meaning, Every, Law}
+use Rattle.monitor.specs.RunLaw.{RunLaw}
 use Rattle.monitor.specs.RunLaws.{run_law}
 use Rattle.report.specs.declared.judging.Judged.{Judged}
 use Rattle.report.specs.Judging.{judgement_of, held_after}
-use Rattle.report.specs.RollLaw.{RollLaw, ApartRollLaw}
+use Rattle.report.specs.RollLaw.{RollLaw, KeptRollLaw, ApartRollLaw}
 use Rattle.report.specs.declared.line.PolicyLine.{PolicyLine}
 use Rattle.report.specs.Texts.{policy_line, policy_text, first_line, verdict_line}
 use Rattle.report.specs.VerdictLaw.{VerdictLaw}
@@ -146,9 +149,20 @@ module _ (ms : List Meaning) (bytes : List ℕ) where
         (whole_script (drop n bytes)).events _ _ refl refl;
   }
 
+-- what the law over whole runs gives of the tables and the state, the roll keeps
+
+abbrev pub Gives : (Tables → Cells → Type 0) → List Meaning → Type 0
+Gives Holds ms = (t : Tables) (es : List Event) (rs : List Answer) (c : Cells)
+    → RunLaw ms t es rs c → Holds t c
+
+pub kept_roll_law : (Holds : Tables → Cells → Type 0) (ms : List Meaning) → Gives Holds ms
+    → (bytes text : List ℕ) → RollLaw ms bytes text → KeptRollLaw Holds ms bytes text
+kept_roll_law Holds ms gives bytes text law t n l er passes =
+    let roll = law t n l er passes in
+    record { roll = roll; kept = gives t _ roll.answers roll.state roll.run_law }
+
 -- separation stands in the pile, at the index k
 pub apart_roll_law : (ms : List Meaning) (k : ℕ) → ((t : Tables) → SeparatesAt ms k t)
     → (bytes text : List ℕ) → RollLaw ms bytes text → ApartRollLaw ms bytes text
-apart_roll_law ms k separates bytes text law t n l er passes =
-    let roll = law t n l er passes in
-    record { roll = roll; kept = roll.run_law.separated k (separates t) }
+apart_roll_law ms k separates =
+    kept_roll_law StaticallyApart ms (λ t es rs c run. run.separated k (separates t))
